@@ -7,8 +7,8 @@ Then each case has
 - lines that may be left out: `words: WORD ..`, more words of the program, as a shell reads them;
   `each: TEXT | TEXT ..`, the case is tried for each of these texts, which stands where `{}` does, also
   in other such lines; `also: LINE`, the case is tried once more with this line before its input, so that
-  what is printed has greater numbers of lines; `without: MARK`, lines of the input that begin with this
-  mark change nothing: the case is tried with them, without their marks, and once more with an empty
+  what is printed has greater numbers of lines; `without: SIGN`, lines of the input that begin with this
+  sign change nothing: the case is tried with them, without their signs, and once more with an empty
   line in the place of each, where what is printed lacks the lines with their numbers;
 - the input;
 - `--- stdout`, and what is printed; `--- stdout ends`, and how it ends; `--- stdout has`, and lines
@@ -92,24 +92,24 @@ def files_of(text):
     return [(path, bytes.fromhex(spelled) if sign else None) for path, sign, spelled in words]
 
 
-def left_out(mark, given, answer):
-    """An input with an empty line for each that is marked, and an answer without what these print."""
+def left_out(sign, given, answer):
+    """An input with an empty line for each that has the sign, and an answer without what these print."""
     lines = given.split(b"\n")
-    marked = {str(place).encode() for place, it in enumerate(lines, 1) if it.startswith(mark)}
-    if not marked:
-        raise BadCases("a case without marked lines")
-    kept = [it for it in answer.splitlines(keepends=True) if it.partition(b":")[0] not in marked]
-    return b"\n".join(b"" if it.startswith(mark) else it for it in lines), b"".join(kept)
+    signed = {str(place).encode() for place, it in enumerate(lines, 1) if it.startswith(sign)}
+    if not signed:
+        raise BadCases("a case without lines of its sign")
+    kept = [it for it in answer.splitlines(keepends=True) if it.partition(b":")[0] not in signed]
+    return b"\n".join(b"" if it.startswith(sign) else it for it in lines), b"".join(kept)
 
 
 def ways_of(options, name, run):
     """How a case is tried: each time its name, and its first run."""
     given, part = run.given, "err" if run.err else "out"
     answer = getattr(run, part)
-    if mark := options.get("without", "").encode():
-        less, kept = left_out(mark, given, answer)
+    if sign := options.get("without", "").encode():
+        less, kept = left_out(sign, given, answer)
         yield f"{name} [without]", run._replace(given=less, **{part: kept})
-        given = b"\n".join(it.removeprefix(mark) for it in given.split(b"\n"))
+        given = b"\n".join(it.removeprefix(sign) for it in given.split(b"\n"))
     yield name, run._replace(given=given)
     if line := options.get("also"):
         more = f"{line}\n".encode() + given

@@ -1,8 +1,9 @@
 """The rules of a step of a node in plain Python, written from docs/MODEL.md ("The machine of a
 node, rule by rule") and not from the code.
 
-A batch is named by the line of its submit, so two equal batches are two. The floor of a node and
-what its tends do are no part of these rules: `known_store.py` has them.
+A batch is named by the line of its submit, so two equal batches are two; by this line its mark is
+known. The floor of a node and what its tends do are no part of these rules: `known_store.py` has
+them.
 """
 
 import collections
@@ -19,9 +20,10 @@ MOST_SENT, MOST_OPEN = 16, 64
 class Node:
     """One node: what it has on its disk, and what it knows while it runs."""
 
-    def __init__(self, name, configurations):
-        """A node that runs, without batches, with the first of these configurations."""
-        self.name, self.configurations = name, configurations
+    def __init__(self, name, configurations, marks):
+        """A node that runs, without batches, with the first of these configurations. Some lines
+        submit batches with these marks."""
+        self.name, self.configurations, self.marks = name, configurations, marks
         self.batches, self.epoch = [], 0
         self.committed, self.successor_has = 0, 0
         self.snapshots, self.pending, self.is_up = collections.Counter(), [], True
@@ -78,13 +80,38 @@ class Node:
             self.committed = self.count
 
     def acknowledge(self, frames):
-        """These frames are sent, and the submits that are committed now are answered."""
-        due = [it for it in self.pending if it[0] <= self.committed]
+        """These frames are sent, and the submits that are committed now are answered, in order of
+        number, then of request."""
+        due = sorted(it for it in self.pending if it[0] <= self.committed)
         self.pending = [it for it in self.pending if it[0] > self.committed]
         return Answer(None, frames, due)
 
+    def held(self, client):
+        """The number and the request of the last batch that bears a mark of this client; else 0."""
+        for number in range(self.count, 0, -1):
+            mark = self.marks.get(self.batches[number - 1])
+            if mark and mark.client == client:
+                return number, mark.request
+        return 0, 0
+
+    def is_old(self, line):
+        """Whether a batch bears a mark, and its client's last mark has a greater request."""
+        mark = self.marks.get(line)
+        return mark is not None and self.held(mark.client)[1] > mark.request
+
+    def number_of(self, line):
+        """The number of the batch that bears the mark of this one, if that is its client's last
+        mark; else 0."""
+        mark = self.marks.get(line)
+        number, request = self.held(mark.client) if mark else (0, 0)
+        return number if mark and request == mark.request else 0
+
     def submit(self, line):
-        """A head takes a batch: it is the next one, and goes on."""
+        """A head takes a batch: it is the next one, and goes on. Of one that is submitted again
+        nothing is appended or sent: it waits for the number of the batch that bears its mark."""
+        if number := self.number_of(line):
+            self.pending.append((number, line))
+            return self.acknowledge([])
         self.batches.append(line)
         self.pending.append((self.count, line))
         self.commit_tail()
@@ -139,9 +166,10 @@ class Node:
         frames = [frame for number in numbers for frame in self.forward(number)]
         return Answer(None, frames + self.ack())
 
-    def refusal_of_submit(self):
+    def refusal_of_submit(self, line):
         """Why a batch is refused, or None."""
-        return self.refusal() or (None if self.is_head() else "2 NotHead")
+        why = self.refusal() or (None if self.is_head() else "2 NotHead")
+        return why or ("9 OldRequest" if self.is_old(line) else None)
 
     def refusal(self):
         """Why any request is refused, or None."""

@@ -7,7 +7,7 @@ leaves lines as they are where it can't be made, or where what it made could be 
 import re
 
 from known_store import DEEPEST
-from lab_texts import ANSWERED
+from lab_texts import ANSWERED, SUBMITS
 from plain_maps import value_at
 
 
@@ -78,7 +78,7 @@ def turn(history, lines, choice):
 
 def leave_out(history, lines, choice):
     """The answer to a statement is missing."""
-    verb = choice.choice(ANSWERED)
+    verb = choice.choice([*ANSWERED, "once"])
     places = places_of(history, lines, ": (?!committed)", verb)
     if places:
         lines.pop(choice.choice(places))
@@ -124,7 +124,7 @@ def early(history, lines, choice):
 def foreign(history, lines, choice):
     """An acknowledgement of the submit of another line."""
     places = places_of(history, lines, ": committed")
-    others = [at for at, words in history.words.items() if words[0] == "submit"]
+    others = [at for at, words in history.words.items() if words[0] in SUBMITS]
     if places and len(others) > 1:
         at = choice.choice(places)
         others.remove(int(lines[at].partition(": ")[0]))

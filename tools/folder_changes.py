@@ -80,11 +80,14 @@ def is_broken(look):
 
 
 def script_of_batches(chain):
-    """A script of three batches that are acknowledged, with reads of what they have."""
+    """A script of three batches that are acknowledged, the last one twice, with reads of what they
+    have."""
     ids = chain.told.ids
     lines = ["config " + " ".join(ids)]
     for at in range(3):
-        lines += [f"submit {ids[0]} z{at}=last{at} a{at}={'v' * 40}{at}", "flow"]
+        batch = f"once {ids[0]} 9 {at + 1} z{at}=last{at} a{at}={'v' * 40}{at}"
+        lines += [batch, "flow"]
+    lines.append(batch)
     return "\n".join([*lines, f"get {ids[0]} z0", f"rows {ids[2]} z0 z3 9", f"get {ids[2]} b", ""])
 
 

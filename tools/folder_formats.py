@@ -1,7 +1,8 @@
 """The files of a node's folder in plain Python, written from docs/FORMATS.md and not from the code:
 slots with their edits, logs with their batches, tables with filter and index.
 
-What is not as the page says raises `Damage`, with the place where it was met.
+What is not as the page says raises `Damage`, with the place where it was met; a slot of the old format
+that counts raises `OldFormat`. A stored key is the byte of its space and the key behind it.
 """
 
 import collections
@@ -10,11 +11,16 @@ import hashlib
 GREATEST = 2**63 - 1
 LONGEST_KEY, LONGEST_VALUE, LONGEST_BATCH, MOST_EDITS = 1_024, 16_384, 65_536, 256
 MOST_IDS, LAST_EPOCH, DEEPEST, MOST_LINES = 16, 15, 6, 4_096
-MOST_DATA, FOOTER, DIGEST, HEAD = 2**33, 52, 8, 11
-MARK = b"CRLSMT01"
+MOST_DATA, FOOTER, DIGEST, FORMAT, MAGIC = 2**33, 52, 8, 2, b"CRLSMT01"
+# Where the log of a slot begins, and that of a slot of the old format.
+HEAD, OLD_HEAD = 13, 11
+ROWS, MARKS = b"\0", b"\1"
 
-# An edit of the version, a line of a log, a line of a table, and an entry of a table: a deletion has
-# no value.
+# A client's mark, and a batch: a mark or None, and edits as pairs of which a deletion has no value.
+Mark = collections.namedtuple("Mark", "client request")
+Batch = collections.namedtuple("Batch", "mark edits")
+# An edit of the version, a line of a log, a line of a table, and an entry of a table, with stored keys:
+# a deletion has no value.
 Edit = collections.namedtuple(
     "Edit", "next_file floor flushed epoch ids logs_gone logs_added tables_gone tables_added"
 )
@@ -25,6 +31,10 @@ Entry = collections.namedtuple("Entry", "key number value")
 
 class Damage(Exception):
     """Bytes that are not as the formats say."""
+
+
+class OldFormat(Exception):
+    """The slot that counts is of the old format."""
 
 
 def expect(holds, text):
@@ -57,6 +67,11 @@ class Fields:
         """The next bytes behind their length."""
         return self.take(self.number(2, f"the length of {name}", most=most))
 
+    def stored(self, name):
+        """The next stored key."""
+        space = self.number(1, f"the space of {name}", most=1)
+        return bytes([space]) + self.text(LONGEST_KEY, name)
+
     def end(self):
         """Nothing is left."""
         expect(self.place == len(self.content), f"bytes stand behind {self.what}")
@@ -78,19 +93,36 @@ def records_of(content, start=0):
     return records
 
 
+def mark_of(fields):
+    """The mark in front of the edits, or None."""
+    if fields.content[fields.place : fields.place + 2] != b"\0\0":
+        return None
+    fields.take(2)
+    client = fields.number(8, "the client of a mark", least=1, most=GREATEST)
+    return Mark(client, fields.number(8, "the request of a mark", least=1, most=GREATEST))
+
+
 def batch_of(content, number):
-    """The edits of the batch that this record of a log holds, as pairs: a deletion has no value."""
+    """The batch that this record of a log holds."""
     fields = Fields(content, f"the record of batch {number}")
     told = fields.number(8, "the number", most=GREATEST)
     expect(told == number, f"batch {told} stands in the place of batch {number}")
     expect(len(content) - 8 <= LONGEST_BATCH, f"batch {number} is too long")
-    edits = []
+    mark, edits = mark_of(fields), []
     for _ in range(fields.number(2, "the number of edits", least=1, most=MOST_EDITS)):
         kind = fields.number(1, "the kind of an edit", least=1, most=2)
         key = fields.text(LONGEST_KEY, "a key")
         edits.append((key, fields.text(LONGEST_VALUE, "a value") if kind == 1 else None))
     fields.end()
-    return edits
+    return Batch(mark, edits)
+
+
+def changes_of(batch):
+    """What a batch leaves at each stored key that it changes."""
+    changes = {ROWS + key: value for key, value in batch.edits}
+    if batch.mark:
+        changes[MARKS + batch.mark.client.to_bytes(8, "big")] = batch.mark.request.to_bytes(8, "big")
+    return changes
 
 
 # ---- the manifest
@@ -127,8 +159,8 @@ def edit_of(content, place):
             level(),
             file(),
             fields.number(8, "the length of a table", most=GREATEST),
-            fields.text(LONGEST_KEY, "a least key"),
-            fields.text(LONGEST_KEY, "a greatest key"),
+            fields.stored("a least key"),
+            fields.stored("a greatest key"),
         )
         expect(line.least <= line.greatest, f"the keys of a table of edit {place} are out of order")
         return line
@@ -148,29 +180,38 @@ def edit_of(content, place):
     return edit
 
 
-def head_of(content):
-    """The generation and the id in the head of an open slot."""
-    expect(len(content) >= HEAD, "the open slot ends before its log")
-    return int.from_bytes(content[1:9], "big"), int.from_bytes(content[9:HEAD], "big")
+def is_old(content):
+    """Whether this open slot is of the old format, in which the id stands where a 0 is."""
+    return content[9:OLD_HEAD] != b"\0\0"
+
+
+def generation_of(content):
+    """The generation in the head of an open slot."""
+    is_there = len(content) >= OLD_HEAD and (is_old(content) or len(content) >= HEAD)
+    expect(is_there, "the open slot ends before its log")
+    return int.from_bytes(content[1:9], "big")
 
 
 def slot_that_counts(first, second):
     """Which of the slots counts, 1 or 2, by their bytes: none where a file is absent. No slot counts
     where none is open."""
     slots = {1: first or b"", 2: second or b""}
-    heads = {it: head_of(slots[it]) for it in slots if slots[it][:1] == b"\x01"}
-    if not heads:
+    generations = {it: generation_of(slots[it]) for it in slots if slots[it][:1] == b"\x01"}
+    if not generations:
         return None
     expect(all(slots.values()), "one slot is open, and the other absent or empty")
-    generations = [heads[it][0] for it in heads]
-    expect(len(set(generations)) == len(generations), "both slots are open with one generation")
-    return max(heads, key=lambda it: heads[it][0])
+    are_once = len(set(generations.values())) == len(generations)
+    expect(are_once, "both slots are open with one generation")
+    slot = max(generations, key=generations.get)
+    expect(generations[slot] <= GREATEST, f"the generation is {generations[slot]}")
+    return slot
 
 
 def slot_of(content):
     """The id and the edits of the slot that counts."""
-    generation, node = head_of(content)
-    expect(generation <= GREATEST, f"the generation is {generation}")
+    if is_old(content):
+        raise OldFormat
+    node = int.from_bytes(content[OLD_HEAD:HEAD], "big")
     expect(node > 0, "the id of the node is 0")
     records = records_of(content, HEAD)
     expect(records, "the slot has no edit")
@@ -181,7 +222,7 @@ def slot_of(content):
 
 
 def filter_of(keys):
-    """The filter of these keys, which are different."""
+    """The filter of these stored keys, which are different."""
     size = max(8, (10 * len(keys) + 7) // 8)
     bits = bytearray(size)
     for key in keys:
@@ -206,7 +247,7 @@ def entries_of(fields):
     """The entries of a block."""
     entries = []
     for _ in range(fields.number(4, "the number of entries", least=1)):
-        key = fields.text(LONGEST_KEY, "a key")
+        key = fields.stored("a key")
         number = fields.number(8, "the number of an entry", most=GREATEST)
         kind = fields.number(1, "the kind of an entry", least=1, most=2)
         value = fields.text(LONGEST_VALUE, "a value") if kind == 1 else None
@@ -237,15 +278,15 @@ def table_of(content):
     index, index_length = fields.number(8, "the index's place"), fields.number(4, "its length")
     place, length = fields.number(8, "the filter's place"), fields.number(4, "its length")
     count = fields.number(8, "the number of entries")
-    fields.number(4, "the format", least=1, most=1)
-    expect(fields.take(len(MARK)) == MARK, "the footer has another mark")
+    fields.number(4, "the format", least=FORMAT, most=FORMAT)
+    expect(fields.take(len(MAGIC)) == MAGIC, "the footer has other last bytes")
     expect(place + length == index, "the index does not begin where the filter ends")
     expect(index + index_length == len(content) - FOOTER, "the footer is not behind the index")
     fields = part_of(content, index, index_length, "the index")
     lines = []
     for _ in range(fields.number(4, "the number of blocks", least=1)):
         line = fields.number(8, "a block's place"), fields.number(4, "its length")
-        key = fields.text(LONGEST_KEY, "the key of a line")
+        key = fields.stored("the key of a line")
         lines.append((*line, key, fields.number(8, "the number of a line", most=GREATEST)))
     fields.end()
     entries = blocks_of(content, lines, place)

@@ -6,8 +6,9 @@ import os
 import stat
 import subprocess
 
+from folder_formats import OldFormat
 from folder_store import NotCreated, Store, files_in
-from lab_texts import expect
+from lab_texts import Broken, expect
 
 # What a run ended with, and what it printed.
 Ended = collections.namedtuple("Ended", "status out err")
@@ -52,6 +53,8 @@ def store_in(folder):
         store = Store(files_in(folder))
     except (NotCreated, FileNotFoundError):
         return None
+    except OldFormat as old:
+        raise Broken(f"{folder}: old format") from old
     expect(not store.faults, f"{folder}: {'; '.join(store.faults)}")
     return store
 

@@ -1,5 +1,5 @@
 """What the files of a node's folder represent, in plain Python: the version of its slots, its logs and
-tables, the batches and the values of each key, and what is not as docs/FORMATS.md says.
+tables, the batches and the values of each stored key, and what is not as docs/FORMATS.md says.
 
 It is written from that page alone, and shares nothing with the store.
 """
@@ -7,8 +7,9 @@ It is written from that page alone, and shares nothing with the store.
 import os
 import re
 
-from folder_formats import DEEPEST, GREATEST, MOST_LINES
-from folder_formats import Damage, batch_of, expect, records_of, slot_of, slot_that_counts, table_of
+from folder_formats import DEEPEST, GREATEST, MOST_LINES, ROWS
+from folder_formats import Damage, batch_of, changes_of, expect, records_of, slot_of
+from folder_formats import slot_that_counts, table_of
 
 NAME = re.compile(r"0|[1-9][0-9]*")
 PLAIN = re.compile(rb"[A-Za-z0-9_.]")
@@ -178,7 +179,7 @@ class Store:
             self.check_numbers()
             self.check_levels()
             for number in range(self.version.flushed + 1, self.count + 1):
-                for key, value in dict(self.batches[number]).items():
+                for key, value in changes_of(self.batches[number]).items():
                     self.versions.setdefault(key, []).append((number, -1, value))
             self.check_batches()
         except Damage as damage:
@@ -200,29 +201,42 @@ class Store:
                 expect(low < high, f"key {spelled(key)} has batch {low} twice")
                 expect(level <= deeper, f"key {spelled(key)} has batch {high} below batch {low}")
 
+    def shown_at(self, key, number):
+        """The value that a stored key shows at a number, and the number of its entry, or None."""
+        entries = [it for it in self.versions.get(key, []) if it[0] <= number]
+        return (entries[-1][2], entries[-1][0]) if entries and entries[-1][2] is not None else None
+
     def value_at(self, key, number):
         """The value that a key shows at a number."""
-        shown = [it for it in self.versions.get(key, []) if it[0] <= number]
-        return shown[-1][2] if shown else None
+        return (self.shown_at(ROWS + key, number) or (None,))[0]
+
+    def keys(self):
+        """The keys of rows, in order."""
+        return sorted(it[1:] for it in self.versions if it[:1] == ROWS)
 
     def rows_at(self, number):
         """The rows at a number, in the order of their keys."""
-        values = {key: self.value_at(key, number) for key in sorted(self.versions)}
+        values = {key: self.value_at(key, number) for key in self.keys()}
         return [(key, value) for key, value in values.items() if value is not None]
 
     def check_batches(self):
-        """From the floor on, what is shown at each number is what the batches make of it."""
-        floor, edits = self.version.floor, {}
-        for number in range(floor + 1, self.count + 1):
-            for key, value in dict(self.batches[number]).items():
-                edits.setdefault(key, {})[number] = value
-        for key in set(self.versions) | set(edits):
-            made = self.value_at(key, floor)
-            numbers = {it[0] for it in self.versions.get(key, []) if it[0] > floor}
-            for number in sorted(numbers | set(edits.get(key, {}))):
-                made = edits.get(key, {}).get(number, made)
-                same = self.value_at(key, number) == made
-                expect(same, f"key {spelled(key)} has another value at {number} than its batches say")
+        """From the floor on, what is shown at each number, and of which batch, is what the batches
+        leave."""
+        floor, changes = self.version.floor, {}
+        for number in range(self.kept + 1, self.count + 1):
+            for key, value in changes_of(self.batches[number]).items():
+                changes.setdefault(key, {})[number] = value
+        for key in set(self.versions) | set(changes):
+            own = changes.get(key, {})
+            shown = self.shown_at(key, floor)
+            left = shown if shown and shown[1] <= self.kept else None
+            numbers = {floor, *own, *(it[0] for it in self.versions.get(key, []))}
+            for number in sorted(it for it in numbers if it >= floor):
+                last = max((it for it in own if it <= number), default=None)
+                if last is not None:
+                    left = None if own[last] is None else (own[last], last)
+                same = self.shown_at(key, number) == left
+                expect(same, f"key {spelled(key)} shows another entry at {number} than its batches leave")
 
     def text(self):
         """What is printed of a store without faults."""

@@ -5,7 +5,7 @@ has, and random streams, lawful or damaged.
 import collections
 import itertools
 
-GREATEST, LONGEST_FRAME, LAST_EPOCH, MOST_IDS, MOST_REFUSALS = 2**63 - 1, 131_072, 15, 16, 8
+GREATEST, LONGEST_FRAME, LAST_EPOCH, MOST_IDS, MOST_REFUSALS = 2**63 - 1, 131_072, 15, 16, 9
 LONGEST_KEY, LONGEST_VALUE, LONGEST_BATCH, MOST_EDITS = 1_024, 16_384, 65_536, 256
 MOST_ROWS, LONGEST_PAGE, ROW = 1_024, 98_304, 4
 KINDS = 14
@@ -58,8 +58,12 @@ class Content:
         self.number(2, least=1)
 
     def batch(self):
-        """A batch."""
+        """A batch, with a mark in front of its edits or without."""
         start = self.place
+        if self.content[start : start + 2] == b"\0\0":
+            self.take(2)
+            self.number(8, least=1)
+            self.number(8, least=1)
         for _ in range(self.number(2, least=1, most=MOST_EDITS)):
             kind = self.number(1, least=1, most=2)
             self.text(LONGEST_KEY)
@@ -185,9 +189,15 @@ class RandomStreams:
         return truth + (self.number(8) if truth == b"\x01" else b"")
 
     def batch(self):
-        """A batch."""
+        """A batch, often with a mark in front of its edits."""
         count = self.one_of([1, 1, 2, 3], [0, 256, 257])
-        return count.to_bytes(2, "big") + b"".join(self.edit() for _ in range(count))
+        edits = count.to_bytes(2, "big") + b"".join(self.edit() for _ in range(count))
+        return self.mark() + edits if self.choice.random() < 0.4 else edits
+
+    def mark(self):
+        """A mark of a client and a request: now and then cut, or one that another follows."""
+        mark = b"\0\0" + self.number(8, least=1) + self.number(8, least=1)
+        return self.one_of([mark], [mark[:-1], mark[:2], mark + mark])
 
     def edit(self):
         """An edit of a batch."""

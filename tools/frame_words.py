@@ -1,5 +1,7 @@
 """Frames to a node, spelled from words by docs/FORMATS.md and not by the code."""
 
+import re
+
 KINDS = ("forward", "ack", "notice", "submit", "get", "rows", "open", "close")
 
 
@@ -20,7 +22,9 @@ def edit(word):
 
 
 def batch(words):
-    """The batch of these edits."""
+    """The batch of these edits, before which its mark may stand: CLIENT:REQUEST."""
+    if found := re.fullmatch(r"(\d+):(\d+)", words[0]):
+        return number(0, 2) + number(found[1]) + number(found[2]) + batch(words[1:])
     return number(len(words), 2) + b"".join(map(edit, words))
 
 

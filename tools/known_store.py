@@ -10,7 +10,7 @@ them, and a look at the node closes them.
 from lab_texts import expect
 
 # No file of a table is shorter: it has a deletion of the empty key.
-LEAST_TABLE = 129
+LEAST_TABLE = 131
 # A version has at most so many tables, and so many logs.
 MOST_FILES = 4_096
 DEEPEST = 6
@@ -80,6 +80,13 @@ class KnownStore:
         expect(not self.is_idle or not self.over(tables), "idle with a level over its limit")
         self.least, self.most, self.kept = floor, floor, kept
         self.tables, self.worked = tables, 0
+
+    def most_reads(self):
+        """A look-up of a key reads at most so many blocks: one of each table of level 0, and one of
+        each deeper level."""
+        if self.worked == 0:
+            return self.tables[0] + sum(count > 0 for count in self.tables[1:])
+        return self.flushes + DEEPEST
 
     def over(self, tables):
         """The levels that are over their limits with so many tables, whatever these hold."""

@@ -6,34 +6,40 @@ import subprocess
 
 # A statement: the number and text of its line, its words, and those of its fault.
 Statement = collections.namedtuple("Statement", "line text words fault")
+# The mark of a batch.
+Mark = collections.namedtuple("Mark", "client request")
+# The statements that submit a batch; the second bears a mark.
+SUBMITS = ("submit", "once")
 # A frame that was sent: its place, sender and addressee, its kind, and its numbers.
 SENT = re.compile(r"#(\d+) (\d+)>(\d+) (forward|ack) (\d+ \d+(?: \d+)?)")
-# The statements that always have an answer: a submit may have a frame in place of it.
+# The statements that always have an answer: a submit may have a frame in place of it. One of a mark
+# that the node has may be answered later.
 ANSWERED = ("get", "submit", "tend", "settle", "show", "stop", "start", "rows", "back", "open")
 ANSWERED += ("close", "notice")
 # The statements that a line of each kind can be printed for.
 CAUSES = {
-    "sent": ("submit", "deliver", "tick", "flow", "notice"),
-    "committed": ("submit",),
+    "sent": (*SUBMITS, "deliver", "tick", "flow", "notice"),
+    "committed": SUBMITS,
     "value": ("get",),
     "none": ("get",),
     "row": ("rows", "back"),
     "rows": ("rows", "back"),
     "opened": ("open",),
     "closed": ("close",),
-    "refused": ("submit", "get", "rows", "back", "open", "close"),
-    "invalid": ("submit", "get", "rows", "back"),
+    "refused": (*SUBMITS, "get", "rows", "back", "open", "close"),
+    "invalid": (*SUBMITS, "get", "rows", "back"),
     "nothing": ("deliver",),
     "busy": ("flow", "settle"),
     "tended": ("tend",),
     "idle": ("tend", "settle"),
     "full": ("tend", "settle"),
     "dropped": ("deliver", "tick", "tend", "settle", "start", "stop", "flow", "notice"),
-    "node": ("submit", "get", "deliver", "tick", "tend", "show", "start", "stop", "notice")
+    "node": (*SUBMITS, "get", "deliver", "tick", "tend", "show", "start", "stop", "notice")
     + ("rows", "back", "open", "close"),
 }
-# Bytes of a batch without its edits, of an edit without key and value, and of a value's length.
-BATCH, EDIT, LENGTH = 2, 3, 2
+# Bytes of a batch without its edits, of a mark, of an edit without key and value, and of a value's
+# length.
+BATCH, MARK, EDIT, LENGTH = 2, 18, 3, 2
 # The limits of a store for which a script has no other.
 LIMITS = {"log": 4_194_304, "l0": 4, "table": 2_097_152, "level": 10_485_760}
 # What a node that runs shows: its epoch, count and committed number, its floor and kept number, and
@@ -41,6 +47,8 @@ LIMITS = {"log": 4_194_304, "l0": 4, "table": 2_097_152, "level": 10_485_760}
 SHOWN = re.compile(
     r"epoch (\d+) count (\d+) committed (\d+) floor (\d+) kept (\d+) tables (\d+(?: \d+){6})"
 )
+# What a node that starts shows.
+STARTED = re.compile(r"started epoch (\d+) count (\d+) committed (\d+)")
 
 
 class Broken(Exception):
@@ -51,6 +59,22 @@ def expect(holds, what):
     """The output is broken where this does not hold."""
     if not holds:
         raise Broken(what)
+
+
+class Batch(list):
+    """The edits of a batch, as words, and its mark, or None."""
+
+    def __init__(self, edits, mark=None):
+        """A batch of these edits."""
+        super().__init__(edits)
+        self.mark = mark
+
+
+def batch_of(words):
+    """The batch of a statement of these words, which submits one."""
+    if words[0] == "once":
+        return Batch(words[4:], Mark(int(words[2]), int(words[3])))
+    return Batch(words[2:])
 
 
 def key_of(edit):
@@ -64,10 +88,15 @@ def bytes_of(word):
     return plain.encode("latin-1")
 
 
-def bytes_of_batch(edits):
-    """The number of bytes in which a batch of these edits is spelled."""
-    length = BATCH
-    for edit in edits:
+def entries_of(batch):
+    """The keys of the entries that a batch leaves: of its edits, and the client of its mark."""
+    return {*map(key_of, batch), *([batch.mark.client] if batch.mark else [])}
+
+
+def bytes_of_batch(batch):
+    """The number of bytes in which a batch is spelled."""
+    length = BATCH + (MARK if batch.mark else 0)
+    for edit in batch:
         length += EDIT + len(bytes_of(key_of(edit)))
         if edit[:1] != "-":
             length += LENGTH + len(bytes_of(edit.partition("=")[2]))

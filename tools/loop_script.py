@@ -3,15 +3,17 @@
 import random
 
 KEYS = [f"k{it}" for it in range(40)] + ["@", "%2dk", "x%20y"]
-VERBS = {"submit": 40, "flow": 14, "tend": 30, "deliver": 6, "tick": 4, "settle": 2, "get": 8}
-VERBS |= {"rows": 3, "back": 3, "open": 2, "close": 2, "restart": 1, "show": 2}
+VERBS = {"submit": 26, "once": 22, "flow": 14, "tend": 30, "deliver": 6, "tick": 4, "settle": 2}
+VERBS |= {"get": 8, "rows": 3, "back": 3, "open": 2, "close": 2, "restart": 1, "show": 2}
 # What a limit is at least and at most.
 LIMITS = {"log": (16, 6_000), "l0": (0, 3), "table": (64, 6_000), "level": (64, 20_000)}
 LONGEST = 400
 # A wide script has so many keys more, tables and logs that are so much longer, and in so many of its
 # batches so many edits: its merges take several tends.
 WIDE_KEYS, WIDER, WIDE_EDITS, OFTEN = 700, 8, 200, 0.3
-
+# So many clients give marks, and how often the request of one is so much behind its greatest one,
+# or that again, or skips one; how often a batch is another than the one that had its mark.
+CLIENTS, REQUESTS, OTHER = 3, {1: 10, 0: 6, 2: 2, -1: 1}, 0.1
 
 # So many batches a tick sends at most.
 MOST_SENT = 16
@@ -27,9 +29,11 @@ def catching_up(ids, batches):
 class LoopScript:
     """A script of a chain. The same seed gives the same."""
 
-    def __init__(self, seed, ids, statements, is_wide=False):
-        """Of so many statements, behind which all nodes get what they may lack."""
+    def __init__(self, seed, ids, statements, is_wide=False, given=None):
+        """Of so many statements, behind which all nodes get what they may lack. Scripts before it
+        over the same folders gave these edits with marks, and this one adds to them."""
         self.choice, self.ids, self.is_wide = random.Random(seed), ids, is_wide
+        self.given = {} if given is None else given
         self.submits, self.seed = 0, seed
         self.lines = [*self.limits(), "config " + " ".join(ids), *self.whole()]
         verbs, weights = list(VERBS), list(VERBS.values())
@@ -66,14 +70,30 @@ class LoopScript:
         name = f"{self.seed}.{len(self.lines)}."
         return f"{self.key()}={name}{'v' * self.choice.randrange(LONGEST)}"
 
+    def edits(self):
+        """The edits of a batch."""
+        if self.is_wide and self.choice.random() < OFTEN:
+            places = self.choice.sample(range(WIDE_KEYS), WIDE_EDITS)
+            return [f"-w{it}" if it % 5 == 0 else f"w{it}={len(self.lines)}" for it in places]
+        return [self.edit() for _ in range(self.choice.choice([1, 1, 1, 2, 2, 3, 8]))]
+
     def submit(self):
         """A batch for the head."""
         self.submits += 1
-        edits = [self.edit() for _ in range(self.choice.choice([1, 1, 1, 2, 2, 3, 8]))]
-        if self.is_wide and self.choice.random() < OFTEN:
-            places = self.choice.sample(range(WIDE_KEYS), WIDE_EDITS)
-            edits = [f"-w{it}" if it % 5 == 0 else f"w{it}={len(self.lines)}" for it in places]
-        return [" ".join(["submit", self.ids[0], *edits])]
+        return [" ".join(["submit", self.ids[0], *self.edits()])]
+
+    def once(self):
+        """A batch with a mark for the head: a client's next one, or one that is submitted again,
+        also of an earlier script."""
+        client = self.choice.randint(1, CLIENTS)
+        greatest = max((it[1] for it in self.given if it[0] == client), default=0)
+        more = self.choice.choices(list(REQUESTS), list(REQUESTS.values()))[0]
+        request = max(1, greatest + more)
+        edits = self.given.setdefault((client, request), self.edits())
+        if self.choice.random() < OTHER:
+            edits = self.edits()
+        self.submits += request > greatest
+        return [f"once {self.ids[0]} {client} {request} {' '.join(edits)}"]
 
     def flow(self):
         """All frames that are left."""

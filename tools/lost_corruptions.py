@@ -5,7 +5,9 @@
 import re
 
 from corruptions import edit, places_of
+from lab_texts import SUBMITS
 from losing_run import copy_of
+from mark_corruptions import shift
 from plain_chain import PlainChain
 from ruled_run import REQUESTS
 
@@ -55,7 +57,7 @@ def answer_of(loss):
     node, it = copy_of(loss.node), loss.statement
     if loss.frame:
         return node.receive(loss.frame) if node.is_up else None
-    return None if node.refusal_of_submit() else node.submit(it.line)
+    return None if node.refusal_of_submit(it.line) else node.submit(it.line)
 
 
 def texts_of(loss, answer):
@@ -84,12 +86,6 @@ def act(verbs, is_printed):
     return corrupt
 
 
-def shift(lines, place, more):
-    """Frames that are sent behind a place of the output have so many later places."""
-    for at in range(place, len(lines)):
-        lines[at] = re.sub(r": #(\d+)", lambda it: f": #{int(it[1]) + more}", lines[at])
-
-
 def lose_place(history, lines, choice):
     """A frame that was lost has no place: those behind it have earlier ones."""
     losses = [it for it in history.losses if it.frame]
@@ -101,6 +97,7 @@ def lose_place(history, lines, choice):
 FRAMES = ("deliver", "flow")
 LOSSES = {
     "the line of a lost submit left out": leave_out(["submit"]),
+    "the line of a lost batch with a mark left out": leave_out(["once"]),
     "the line of a lost read left out": leave_out(["get", "rows", "back"]),
     "the line of a lost open or close left out": leave_out(["open", "close"]),
     "the line of a lost frame left out": leave_out(FRAMES),
@@ -120,6 +117,10 @@ LOSSES = {
     "a lost frame that acted, and is said to be lost": act(FRAMES, True),
     "a lost submit that acted": act(["submit"], False),
     "a lost submit that acted, and is said to be lost": act(["submit"], True),
+    "a lost batch with a mark that acted": act(["once"], False),
+    "a lost batch with a mark that acted, and is said to be lost": act(["once"], True),
+    "a lost batch with a mark acknowledged": edit("lost$", "committed 1", "once"),
+    "a lost batch with a mark refused as old": edit("lost$", "refused 9 OldRequest", "once"),
     "a lost get answered": edit("lost$", "none at 0", "get"),
     "a lost get refused": edit("lost$", "refused 1 NotRunning", "get"),
     "a lost page answered": edit("lost$", "rows 0 at 0", "rows"),
@@ -149,7 +150,7 @@ class TakesLostSubmits(PlainChain):
     def lose(self, it, frame):
         """The node takes it."""
         super().lose(it, frame)
-        if it.words[0] == "submit" and not self.nodes[it.words[1]].refusal_of_submit():
+        if it.words[0] in SUBMITS and not self.nodes[it.words[1]].refusal_of_submit(it.line):
             self.nodes[it.words[1]].submit(it.line)
 
 

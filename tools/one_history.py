@@ -1,13 +1,14 @@
 #!/usr/bin/env python3
 """one_history.py SCRIPT OUTPUT [TURN..]: checks a run from its texts, by what is promised of it.
 
-Two things are checked. The first is the headline: there is one list of batches, in the order of
-their submits and none twice, of which every acknowledgement and every read speaks, whatever node of
-whatever configuration answers; each node of the last configuration has it; a read at the last tail
-is not behind anything acknowledged or read before; and what a node has given up, each later node of
-its configuration has. The second is each line: it must be the one that the rules of a step give
-(`chain_rules.py`). Open is only where a floor is, what a tend does, and whether a fault strikes in
-a step that reads the disk: there a line must be one that can be so (`known_store.py`).
+Two things are checked. The first is the headline (`headline.py`): there is one list of batches, in
+the order of their submits, none twice and no two with one mark, of which every acknowledgement and
+every read speaks, whatever node of whatever configuration answers; each node of the last
+configuration has it; a read at the last tail is not behind anything acknowledged or read before;
+and what a node has given up, each later node of its configuration has. The second is each line: it
+must be the one that the rules of a step give (`chain_rules.py`). Open is only where a floor is,
+what a tend does, and whether a fault strikes in a step that reads the disk: there a line must be
+one that can be so (`known_store.py`, `marked_run.py`).
 
 A run may have lost what was carried in some turns, counted from 0: each request, each frame that is
 delivered and each reply has one. A request or frame that is lost has the line `lost`, and does
@@ -24,13 +25,13 @@ import sys
 
 sys.dont_write_bytecode = True
 from chain_rules import Node
+from headline import OneHistory
 from known_store import MOST_FILES, KnownStore
-from lab_texts import SHOWN, Broken, expect, key_of, kind_of, limits_of
-from losing_run import LosingRun
+from lab_texts import SHOWN, STARTED, SUBMITS, Broken, entries_of, expect, kind_of, limits_of
+from marked_run import MarkedRun
 from plain_maps import value_at
 from run_tends import NodeTends
 
-STARTED = re.compile(r"started epoch (\d+) count (\d+) committed (\d+)")
 # So many entries and keys tables have at most.
 Most = collections.namedtuple("Most", "entries keys")
 # A node that was shown: the line, the node, its epoch, its numbers and tables, its least open
@@ -60,72 +61,7 @@ def outcome_of(text):
     return text if kind in ("dropped", "refused", "invalid") else kind
 
 
-class OneHistory:
-    """The headline: the list of batches that reads and acknowledgements have spoken of so far."""
-
-    def __init__(self, configurations, nodes):
-        """No batch, of these nodes."""
-        self.first, self.last, self.nodes = configurations[0], configurations[-1], nodes
-        # The batches by the lines of their submits, those that were acknowledged, and of each node
-        # the number of its last acknowledgement.
-        self.batches, self.acknowledged, self.numbers = [], set(), collections.Counter()
-        # The greatest number that was acknowledged, read or opened.
-        self.known = 0
-
-    def tell(self, node, at):
-        """A node speaks of its first so many batches: they are the history's."""
-        told = node.batches[:at]
-        expect(len(told) == at, "more batches than the node has")
-        expect(told[: len(self.batches)] == self.batches[:at], "a batch of another history")
-        if at > len(self.batches):
-            in_order = all(one < other for one, other in zip(told, told[1:]))
-            expect(in_order, "batches out of the order of their submits, or one twice")
-            self.batches = told
-            for name in self.last:
-                self.look(self.nodes[name])
-        self.known = max(self.known, at)
-
-    def look(self, node):
-        """A node of the last configuration has the history, also while it is down."""
-        if node.name in self.last:
-            has_it = node.batches[: len(self.batches)] == self.batches
-            expect(has_it, f"node {node.name} of the last configuration lacks the history")
-
-    def acknowledge(self, node, line, number):
-        """A batch is acknowledged: it stands in this place. Each is once, each node's in order."""
-        self.tell(node, number)
-        expect(self.batches[number - 1] == line, "an acknowledgement of another batch")
-        expect(line not in self.acknowledged, "a second acknowledgement")
-        expect(number > self.numbers[node.name], "acknowledgements out of order")
-        self.acknowledged.add(line)
-        self.numbers[node.name] = number
-
-    def is_last_tail(self, node):
-        """Whether a node is the tail of the last configuration, and knows that."""
-        return node.name == self.last[-1] and node.ids == self.last
-
-    def look_fresh(self, node, at):
-        """What the last tail answers without being asked for a number is not old."""
-        is_fresh = not self.is_last_tail(node) or at >= self.known
-        expect(is_fresh, "an old read at the last configuration's tail")
-
-    def give_up(self, node, kept):
-        """What a node has given up, each later node that its configuration keeps has."""
-        later = self.first[self.first.index(node.name) + 1 :]
-        for other in (self.nodes[name] for name in later if name in node.ids):
-            expect(kept <= other.count, f"a batch given up that node {other.name} lacks")
-
-    def finish(self):
-        """Along the chain each node's list is a beginning of that of each node before it."""
-        for at, later in enumerate(self.first):
-            node = self.nodes[later]
-            for name in self.first[:at]:
-                batches = self.nodes[name].batches[: node.count]
-                in_order = name not in node.ids or batches == node.batches
-                expect(in_order, f"node {later} has a batch that node {name} before it lacks")
-
-
-class History(LosingRun):
+class History(MarkedRun):
     """A run and what was printed of it, checked line by line."""
 
     def __init__(self, script, output, seen, rules=Node, lost=()):
@@ -135,7 +71,7 @@ class History(LosingRun):
         self.words = {it.line: it.words for it in self.statements}
         self.seen = seen
         self.lines, self.place = collections.deque(output.split("\n")[:-1]), 0
-        self.history = OneHistory(self.configurations, self.nodes)
+        self.history = OneHistory(self.configurations, self.nodes, self.edits)
         limits = limits_of(script)
         self.stores = {name: KnownStore(limits) for name in self.nodes}
         self.tends = {name: NodeTends(limits["log"]) for name in self.nodes}
@@ -231,7 +167,7 @@ class History(LosingRun):
 
     def sent(self, it, frame):
         """A batch that is sent again is in a log."""
-        if frame.kind == "forward" and it.words[0] != "submit":
+        if frame.kind == "forward" and it.words[0] not in SUBMITS:
             store = self.stores[frame.sender]
             self.again.append((it.line, len(self.frames), store.kept))
             store.send(*frame.numbers)
@@ -302,7 +238,7 @@ class History(LosingRun):
 
     def most_of(self, node):
         """So many entries and keys the tables of a node's batches have at most."""
-        keys = [{key_of(edit) for edit in batch} for batch in self.map_of(node, node.count)]
+        keys = [entries_of(batch) for batch in self.map_of(node, node.count)]
         return Most(sum(map(len, keys)), len(set().union(*keys)))
 
     def floor_of(self, it, node):
@@ -318,7 +254,8 @@ class History(LosingRun):
         """A node starts with the history, if it is of the last configuration."""
         self.stopped.add(node.name)
         self.history.look(node)
-        self.starts.append((it.line, node.name, node.epoch, node.count))
+        if it.line not in self.undoubted:
+            self.starts.append((it.line, node.name, node.epoch, node.count))
         self.seen["start at a later epoch"] += node.epoch > 0
         self.seen["start of a removed node"] += node.is_removed()
 

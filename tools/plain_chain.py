@@ -10,7 +10,7 @@ import random
 
 from chain_rules import Answer, Node
 from known_store import DEEPEST, KnownStore
-from lab_texts import limits_of
+from lab_texts import Mark, limits_of
 from ruled_run import RuledRun
 from run_tends import LOG, length_of
 
@@ -81,6 +81,14 @@ class PlainChain(RuledRun):
         """Whether a fault strikes in a step that reads the disk. A read of keys reads tables."""
         is_read = it.words[0] in ("start", "tick", "tend") or any(self.stores[node.name].tables)
         return is_read and self.choice.random() < 0.3
+
+    def calls_for_mark(self, it, node):
+        """So many calls of the disk a node makes to ask for a client's last mark: none where memory
+        has it, else at most one for each table."""
+        store, client = self.stores[node.name], self.edits[it.line].mark.client
+        if node.held(client)[0] >= store.logs[-1]:
+            return 0
+        return self.choice.randint(0, min(3, sum(store.tables)))
 
     def is_hidden(self, it, node, at):
         """Whether a number is below the floor."""
@@ -155,7 +163,7 @@ class TakesAgain(Node):
 class TakesSubmits(Node):
     """A node that takes batches of clients, though it is no head."""
 
-    def refusal_of_submit(self):
+    def refusal_of_submit(self, line):
         """Whether it is the head is not looked at."""
         return self.refusal()
 
@@ -181,6 +189,76 @@ class LosesItsLast(Node):
         super().start(floor)
 
 
+class AppendsRepeats(Node):
+    """A head that appends a batch again that is submitted again."""
+
+    def number_of(self, line):
+        """Whether the batch is there is not looked at."""
+        return 0
+
+
+class AnswersEarly(Node):
+    """A head that acknowledges a batch that is submitted again before it is committed."""
+
+    def submit(self, line):
+        """What is committed is not looked at."""
+        number = self.number_of(line)
+        return Answer(None, [], [(number, line)]) if number else super().submit(line)
+
+
+class AnswersAnew(Node):
+    """A head that acknowledges a batch that is submitted again with the next number."""
+
+    def number_of(self, line):
+        """The number that the next batch gets."""
+        return self.count + 1 if super().number_of(line) else 0
+
+
+class ForgetsMarks(Node):
+    """A node that keeps marks in memory alone."""
+
+    forgotten = 0
+
+    def held(self, client):
+        """The marks of batches from before its start are gone."""
+        held = super().held(client)
+        return held if held[0] > self.forgotten else (0, 0)
+
+    def start(self, floor):
+        """It knows no mark."""
+        self.forgotten = self.count
+        super().start(floor)
+
+
+class RefusesNewer(Node):
+    """A head that refuses a request as old where the client's last one is less, not greater."""
+
+    def is_old(self, line):
+        """The last one is less."""
+        mark = self.marks.get(line)
+        return mark is not None and 0 < self.held(mark.client)[1] < mark.request
+
+
+class HoldsFirst(Node):
+    """A head that holds the first mark of a client, and no later one."""
+
+    def held(self, client):
+        """The first batch that bears a mark of this client."""
+        marks = [self.marks.get(line) for line in self.batches]
+        own = [(at, it.request) for at, it in enumerate(marks, 1) if it and it.client == client]
+        return own[0] if own else (0, 0)
+
+
+class HoldsAll(Node):
+    """A head that holds one mark for all clients."""
+
+    def held(self, client):
+        """The last batch that bears a mark, of whatever client."""
+        held = super().held
+        return max(held(it.client) for it in [Mark(client, 0), *self.marks.values()])
+
+
 # The rules that break the headline, each in some run.
 WRONG = (TakesOldFrames, ForgetsItsEpoch, CommitsItsCount, TakesAgain, TakesSubmits, AdoptsAlone)
-WRONG += (LosesItsLast,)
+WRONG += (LosesItsLast, AppendsRepeats, AnswersEarly, AnswersAnew, ForgetsMarks, RefusesNewer)
+WRONG += (HoldsFirst, HoldsAll)

@@ -1,16 +1,21 @@
 """Random lawful scripts, for `random_runs`."""
 
+import collections
 import random
 
 KEYS = ["a", "b", "c", "@", "%2dk", "x%20y"]
 EDITS = [1] * 12 + [2] * 12 + [3] * 6 + [4] * 3 + [0]
 JUNK = ["old", "new", "00", "01", "ff", "0100", "a1b2c3"]
-VERBS = {"submit": 26, "get": 27, "deliver": 22, "tick": 8, "tend": 36, "flow": 9, "stop": 4}
-VERBS |= {"start": 6, "settle": 8, "show": 14, "rows": 10, "back": 10, "open": 8, "close": 8}
+VERBS = {"submit": 18, "once": 20, "get": 27, "deliver": 22, "tick": 8, "tend": 36, "flow": 9}
+VERBS |= {"stop": 4, "start": 6, "settle": 8, "show": 14, "rows": 10, "back": 10, "open": 8}
+VERBS |= {"close": 8}
 # How often a chain has so many nodes.
 LENGTHS = {1: 2, 2: 3, 3: 5, 4: 5, 5: 5}
 # How often a node is told of a configuration, for each one behind the first.
 NOTICES = 8
+# So many clients give marks, and how often the request of one is so much behind its greatest one,
+# or that again, or skips some. How often a batch is another than the one that had its mark.
+CLIENTS, REQUESTS, OTHER = 2, {1: 8, 0: 12, -1: 3, -2: 1, 2: 2, 4: 1}, 0.1
 # What a limit is at least and at most, if a script has it, and how often one has it.
 LIMITS = {"log": (16, 256, 0.9), "l0": (0, 4, 0.8), "table": (64, 400, 0.7)}
 LIMITS |= {"level": (64, 600, 0.7), "cache": (1, 8, 0.5)}
@@ -36,6 +41,11 @@ class Script:
         # The newest epoch of which a node was told, and of each node the one that it may be at.
         self.newest, self.epochs = 0, dict.fromkeys(self.nodes, 0)
         self.frames, self.batches, self.down = 0, 0, []
+        # The nodes and numbers of snapshots that may have been opened.
+        self.opened = []
+        # The edits that were given with a mark, and of each client its greatest request, and the
+        # node that got it first.
+        self.given, self.greatest, self.first = {}, collections.Counter(), {}
         self.is_wide = self.choice.randrange(WIDE) == 0
         is_crowded = self.choice.randrange(CROWDED) == 0
         limits = CROWDED_LIMITS if is_crowded else list(self.limits())
@@ -96,7 +106,7 @@ class Script:
         """A step of this node, sometimes with a fault of its disk, if it calls it then."""
         if self.choice.random() > often:
             return line
-        if line.startswith(("submit", "start", "tend", "notice")):
+        if line.startswith(("submit", "once", "start", "tend", "notice")):
             self.down.append(node)
         call = self.choice.randint(1, 5)
         if line.startswith(("tend", "start")):
@@ -107,17 +117,47 @@ class Script:
         return f"{line} !stop {call} {self.choice.choice(JUNK)}"
 
     def submit(self):
-        """A batch, most often for a node that may be a head, now and then one of no edits."""
+        """A batch, most often for a node that may be a head."""
+        node, edits = self.head(0.95), self.edits()
+        self.take()
+        return self.with_fault(node, " ".join(["submit", str(node), *edits]))
+
+    def once(self):
+        """A batch with a mark: a client's next one, or one that is submitted again, at any node
+        that may be a head, most often as it was. At another node it is more often its last one."""
+        client, node = self.choice.randint(1, CLIENTS), self.head(0.9)
+        more = self.choice.choices(list(REQUESTS), list(REQUESTS.values()))[0]
+        if self.first.get(client, node) != node and self.choice.random() < 0.6:
+            more = 0
+        request = max(1, self.greatest[client] + more)
+        edits = self.given.get((client, request))
+        if edits is None or self.choice.random() < OTHER:
+            edits = self.edits()
+        self.given.setdefault((client, request), edits)
+        if request > self.greatest[client]:
+            self.take()
+            self.greatest[client], self.first[client] = request, node
+        line = " ".join(["once", str(node), str(client), str(request), *edits])
+        return self.with_fault(node, line, 0.2)
+
+    def head(self, often):
+        """A node that may be a head, so often, and half of these times the newest; else any."""
         heads = [it for it in self.nodes if self.configurations[self.epochs[it]][0] == it]
-        is_any = not heads or self.choice.random() > 0.95
-        node = self.node() if is_any else self.choice.choice(heads)
+        if not heads or self.choice.random() > often:
+            return self.node()
+        newest = max(heads, key=self.epochs.get)
+        return self.choice.choice([newest, self.choice.choice(heads)])
+
+    def take(self):
+        """A node may take a batch, and send it."""
         if not self.down:
             self.send(1)
             self.batches += 1
+
+    def edits(self):
+        """The edits of a batch, now and then none."""
         edits = [self.edit() for _ in range(self.choice.choice(EDITS))]
-        if self.is_wide and self.choice.random() < 0.5:
-            edits = self.wide_edits()
-        return self.with_fault(node, " ".join(["submit", str(node), *edits]))
+        return self.wide_edits() if self.is_wide and self.choice.random() < 0.5 else edits
 
     def send(self, most):
         """Perhaps so many frames are sent. A chain of one node sends none."""
@@ -167,13 +207,16 @@ class Script:
 
     def open(self):
         """A snapshot, at a number or at the committed one."""
-        node = self.node()
-        return self.with_fault(node, f"open {node}{self.number(0.5)}")
+        node, number = self.node(), self.number(0.5)
+        self.opened.append((node, number or f" {self.batches}"))
+        return self.with_fault(node, f"open {node}{number}")
 
     def close(self):
-        """A snapshot that may be there is closed."""
-        node = self.node()
-        return self.with_fault(node, f"close {node}{self.number(1)}")
+        """A snapshot that may be there is closed: most often one that was opened."""
+        node, number = self.node(), self.number(1)
+        if self.opened and self.choice.random() < 0.6:
+            node, number = self.choice.choice(self.opened)
+        return self.with_fault(node, f"close {node}{number}")
 
     def deliver(self):
         """Any place, most often one of the latest: so some are early, twice, or not there yet."""

@@ -4,16 +4,17 @@ What clients and nodes send is carried, each in its turn, and what the carrier l
 lost: a request or frame reaches no node, a reply no client.
 
 The rules leave open where a node's floor is, what its tends do, and how many calls of the disk a
-step makes that reads it, so whether a fault strikes there. A subclass decides that, and what a line
+step makes that reads it, so whether a fault strikes there. A node that runs and gets a batch with a
+mark reads first which mark of the client is the last. A subclass decides all that, and what a line
 is for: `one_history.py` compares lines with a program's, `plain_chain.py` writes them.
 """
 
 from chain_rules import Node
-from lab_texts import bytes_of, bytes_of_batch, key_of, read_script
+from lab_texts import SUBMITS, batch_of, bytes_of, bytes_of_batch, key_of, read_script
 from plain_maps import page_of, value_at
 
 # The statements that are requests of a client.
-REQUESTS = ("submit", "get", "rows", "back", "open", "close")
+REQUESTS = (*SUBMITS, "get", "rows", "back", "open", "close")
 # A flow delivers so many frames at most.
 MOST_IN_FLOW = 10_000
 # So many calls of the disk record a batch or a configuration: the record, a sync, its gate, a sync.
@@ -26,8 +27,8 @@ LONGEST_KEY, LONGEST_VALUE, LONGEST_BATCH, MOST_EDITS, MOST_ROWS = 1_024, 16_384
 
 def invalid_of(words):
     """Why there can be no statement of these words, or None: the first fault in their order."""
-    if words[0] == "submit":
-        return invalid_batch(words[2:])
+    if words[0] in SUBMITS:
+        return invalid_batch(batch_of(words))
     places = {"get": [2], "rows": [2, 3], "back": [2, 3]}.get(words[0], [])
     keys = [words[at] for at in places if words[at] != "*"]
     if any(len(bytes_of(key)) > LONGEST_KEY for key in keys):
@@ -36,18 +37,18 @@ def invalid_of(words):
     return "8 BadLimit" if is_walk and not 1 <= int(words[4]) <= MOST_ROWS else None
 
 
-def invalid_batch(edits):
-    """Why there can be no batch of these edits, or None."""
-    for edit in edits:
+def invalid_batch(batch):
+    """Why there can be no such batch, or None."""
+    for edit in batch:
         if len(bytes_of(key_of(edit))) > LONGEST_KEY:
             return "1 KeyTooLong"
         if edit[:1] != "-" and len(bytes_of(edit.partition("=")[2])) > LONGEST_VALUE:
             return "2 ValueTooLong"
-    if not edits:
+    if not batch:
         return "3 NoEdits"
-    if len(edits) > MOST_EDITS:
+    if len(batch) > MOST_EDITS:
         return "4 TooManyEdits"
-    return "5 BatchTooLong" if bytes_of_batch(edits) > LONGEST_BATCH else None
+    return "5 BatchTooLong" if bytes_of_batch(batch) > LONGEST_BATCH else None
 
 
 def is_kept(fault):
@@ -57,15 +58,23 @@ def is_kept(fault):
     return fault[2] == "new" or fault[2][:2] == "01"
 
 
+def behind(it, calls):
+    """A statement with its fault so many calls of its step earlier."""
+    word, call, *junk = it.fault
+    return it._replace(fault=[word, str(int(call) - calls), *junk])
+
+
 class RuledRun:
     """A run, statement by statement. Each statement is a method of its name."""
 
     def __init__(self, script, rules=Node, lost=()):
         """Reads a script. Its nodes have these rules, and its carrier loses these turns, from 0."""
         self.configurations, self.statements = read_script(script)
-        self.nodes = {name: rules(name, self.configurations) for name in self.configurations[0]}
-        submits = [it for it in self.statements if it.words[0] == "submit"]
-        self.edits = {it.line: it.words[2:] for it in submits}
+        submits = [it for it in self.statements if it.words[0] in SUBMITS]
+        self.edits = {it.line: batch_of(it.words) for it in submits}
+        marks = {line: batch.mark for line, batch in self.edits.items() if batch.mark}
+        ids = self.configurations[0]
+        self.nodes = {name: rules(name, self.configurations, marks) for name in ids}
         # The frames by their places, and the places of those that a statement delivered.
         self.frames, self.delivered, self.next_in_flow = [], set(), 1
         # The carrier's next turn, and those in which it loses what it carries.
@@ -104,7 +113,7 @@ class RuledRun:
         return is_there
 
     def map_of(self, node, at):
-        """The first so many batches of a node, as their edits."""
+        """The first so many batches of a node."""
         return [self.edits[line] for line in node.batches[:at]]
 
     def answer(self, it, node, answer, adopted=""):
@@ -145,10 +154,19 @@ class RuledRun:
     def submit(self, it):
         """A batch for a node."""
         node = self.nodes[it.words[1]]
-        if why := node.refusal_of_submit():
+        if why := node.refusal_of_submit(it.line):
             self.reply(it.line, f"refused {why}")
         elif answer := self.step(it, node, node.submit, it.line):
             self.answer(it, node, answer)
+
+    def once(self, it):
+        """A batch with a mark for a node, which asks its store for the client's last one first."""
+        node = self.nodes[it.words[1]]
+        calls = self.calls_for_mark(it, node) if it.fault and node.is_up else 0
+        if it.fault and int(it.fault[1]) <= calls:
+            self.fall(it, node)
+        else:
+            self.submit(behind(it, calls) if it.fault else it)
 
     def deliver(self, it):
         """The frame in a place goes to its addressee."""

@@ -27,7 +27,7 @@ def check_folders(program, folder, history):
         version = store.version
         told = str(version.node), version.epoch, [str(it) for it in version.ids]
         expect(told == (name, node.epoch, node.ids), f"node {told[0]} of epoch {told[1]}")
-        check_batches(store, [history.words[line][2:] for line in node.batches])
+        check_batches(store, [history.edits[line] for line in node.batches])
 
 
 def check_batches(store, batches):
@@ -36,7 +36,7 @@ def check_batches(store, batches):
     node = store.version.node
     expect(store.count == len(changes), f"node {node} has {store.count} batches of {len(changes)}")
     for number in range(store.kept + 1, store.count + 1):
-        is_so = store.batches[number] == changes[number - 1]
+        is_so = store.batches[number] == (batches[number - 1].mark, changes[number - 1])
         expect(is_so, f"node {node} has another batch {number}")
     for number in (store.version.floor, store.count):
         rows = rows_of(change for batch in changes[:number] for change in batch)

@@ -8,7 +8,8 @@ did is named as far as it follows from the texts (`run_tends.py`).
 import collections
 import re
 
-from lab_texts import ANSWERED, CAUSES, SENT, SHOWN, kind_of, limits_of, read_script
+from lab_texts import ANSWERED, CAUSES, SENT, SHOWN, SUBMITS
+from lab_texts import Batch, batch_of, kind_of, limits_of, read_script
 from run_tends import NodeTends
 
 MOST_IN_FLOW, LONGEST_VALUE = 10_000, 12
@@ -27,7 +28,7 @@ SHAPES = {
     r"rows \d+ at \d+( more)?|(opened|closed) \d+": "circle",
     r"tended|idle|full|busy": "tend",
 }
-STEPS = ("deliver", "flow", "tick", *ANSWERED)
+STEPS = ("deliver", "flow", "tick", "once", *ANSWERED)
 # So many numbers a statement has at least, of nodes, places or epochs.
 NUMBERS = {"flow": 0, "notice": 2}
 
@@ -129,14 +130,19 @@ class Run:
     def note_store(self, text, node, it, note):
         """What a line says of the batches and the tends of its node."""
         tends, kind, shown = self.tends[node], kind_of(text), SHOWN.search(text)
-        if it.words[0] == "submit" and kind in ("sent", "committed"):
-            self.append(node, it.words[2:])
+        if it.words[0] in SUBMITS and self.is_next(text, node):
+            self.append(node, batch_of(it.words))
         elif shown:
             tends.show([int(number) for number in shown[6].split(" ")], int(shown[4]))
         elif it.words[0] == "tend" and kind in ("tended", "idle", "full"):
             tends.tend(kind, self.batches[node], note)
         elif it.words[0] == "settle" and kind != "dropped":
             tends.settle(kind, self.batches[node])
+
+    def is_next(self, text, node):
+        """Whether a line of a submit is of the batch behind those of its node: then it is new."""
+        kind, number = kind_of(text), int(text.rpartition(" ")[2]) if text[-1:].isdecimal() else 0
+        return kind in ("sent", "committed") and number == len(self.batches[node]) + 1
 
     def append(self, node, batch):
         """A node has one batch more."""
@@ -184,7 +190,7 @@ class Run:
         elif epoch != self.epochs[node]:
             forms = ["dropped OtherEpoch"]
         elif frame.kind == "forward":
-            self.unsure[node] = self.batch_of(frame.sender, number)
+            self.unsure[node] = self.batch_at(frame.sender, number)
             forms = ["dropped (?!NotRunning)", rf"#\d+ {node}>", f"node {node} stopped"]
         else:
             forms = [rf"#\d+ {node}>\d+ ack \d+ {number} ", f"node {node} stopped"]
@@ -192,15 +198,15 @@ class Run:
         for text in filter(None, [self.take(it.line, form) for form in forms]):
             notes += self.notes_of(text, node, it)
         if frame.kind == "forward" and [note.shape for note in notes[:1]] == ["dot"]:
-            self.append(node, self.batch_of(frame.sender, number))
+            self.append(node, self.batch_at(frame.sender, number))
         if frame.kind == "ack" and len(forms) == 2 and self.ids(node)[0] == node:
             notes += self.take_replies(node, number)
         return notes
 
-    def batch_of(self, node, number):
+    def batch_at(self, node, number):
         """The batch of this number of a node. An output may speak of one that it does not have."""
         batches = self.batches[node]
-        return batches[number - 1] if 0 < number <= len(batches) else []
+        return batches[number - 1] if 0 < number <= len(batches) else Batch([])
 
     def take_replies(self, node, committed):
         """What a head acknowledges when it knows so many batches as committed."""
@@ -270,8 +276,8 @@ class Run:
             rest = Note(node, "none", text.removeprefix("started "), None)
             return [Note(node, "start", f"started{role}", None), rest]
         self.up.discard(node)
-        if it.words[0] == "submit":
-            self.unsure[node] = it.words[2:]
+        if it.words[0] in SUBMITS:
+            self.unsure[node] = batch_of(it.words)
         tends.stop(batches, it.words[0] == "tend")
         by = ["stop", *it.words[2:]] if it.words[0] == "stop" else it.fault
         cause = f" by {' '.join(by)}" if by and text in ("stopped", "stopped: disk") else ""

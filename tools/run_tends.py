@@ -8,7 +8,7 @@ is taken that no rewrite of the manifest is due: its slot would need 65,536 byte
 
 import collections
 
-from lab_texts import bytes_of_batch, key_of
+from lab_texts import bytes_of_batch, entries_of
 
 STEP, DEEPEST = 256, 6
 # Bytes of an empty log, and of a record beside its batch.
@@ -31,9 +31,9 @@ NAMES = {
 }
 
 
-def length_of(edits):
+def length_of(batch):
     """The bytes of a batch's record in a log."""
-    return RECORD + bytes_of_batch(edits)
+    return RECORD + bytes_of_batch(batch)
 
 
 class NodeTends:
@@ -58,7 +58,7 @@ class NodeTends:
             return [("idle", course), ("begin", course._replace(merge=1, has_begun=True))]
         ended = course._replace(merge=0, has_ended=True)
         done = [("end", ended), ("give up", course._replace(merge=0))]
-        entries = sum(len({key_of(edit) for edit in batch}) for batch in batches[: self.count])
+        entries = sum(len(entries_of(batch)) for batch in batches[: self.count])
         if STEP * course.merge < entries:
             done.append(("part", course._replace(merge=course.merge + 1)))
         return done

@@ -45,6 +45,12 @@ MIDDLE += ["stop 2", "notice 1 1", "notice 3 1", "tick 1", "flow"]
 TAIL = ["config 1 2 3", "config 1 2", "submit 1 a=1", "deliver 1", "notice 1 1", "notice 2 1"]
 TAIL += ["deliver 3"]
 
+ONCE = ["once 1 7 1 a=1", "once 1 7 1 a=1"]
+
+AGAIN = ["limit log 16", "limit l0 0", "config 1 2", "config 2", *ONCE, "flow", "settle 1"]
+AGAIN += [*ONCE, "once 1 7 2 a=2", "once 1 7 2 a=2", "deliver 3", "tend 2", "notice 2 1"]
+AGAIN += ["once 2 7 1 a=1", "once 2 7 2 a=2", "settle 2", "once 2 7 2 a=2", "once 1 7 2 a=2"]
+
 PARTS = ["limit log 16", "limit l0 1", "config 1", wide(1), "tend 1", wide(2)]
 PARTS += ["tend 1"] * 3 + ["show 1", "tend 1", "show 1", "tend 1"]
 
@@ -58,6 +64,7 @@ FAULTS = {
     "the middle node leaves": script(*MIDDLE),
     "the tail leaves": script(*TAIL),
     "a merge takes two parts": script(*PARTS),
+    "batches with marks are submitted again": script(*AGAIN),
 }
 
 # Short runs that `sweep_faults` sweeps event by event, with the least limits, so that each tend has
@@ -121,6 +128,16 @@ COURSES = {
         script(*DEEP, "config 1", "submit 1 a=1", *["tend 1"] * 5, "submit 1 -a", "stop 1 01")
         + script("start 1", *["tend 1"] * 3, "get 1 a"),
         630,
+    ),
+    "a batch with a mark is submitted again, and at the next head": (
+        script(*SMALL, "config 1 2", "config 2", *ONCE, "deliver 1", *ONCE, "notice 2 1")
+        + script("once 2 7 1 a=1", "once 2 7 2 a=2", "once 2 7 1 a=1", "once 1 7 2 a=3")
+        + script("deliver 2"),
+        120,
+    ),
+    "the mark of a batch is in a table": (
+        script(*SMALL, "config 1", "once 1 7 1 a=1", "tend 1", *ONCE, "once 1 7 2 a=2", *ONCE),
+        132,
     ),
 }
 

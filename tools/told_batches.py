@@ -2,18 +2,19 @@
 printed of them, even where a run was cut off; and whether folders have what was told.
 
 A batch is in the list where a line says that it was sent or committed. The last submit of a run that
-was cut off, or one in which the head stopped, may be in it or not: the head's folder tells. All runs
-are of one configuration, so each node has a beginning of the head's list.
+was cut off, or one in which the head stopped, may be in it or not: the head's folder tells. A batch
+with a mark is in it once, whatever run submits it again, and the requests of a client rise. All
+runs are of one configuration, so each node has a beginning of the head's list.
 """
 
 import bisect
 import collections
 
-from lab_texts import SENT, SHOWN, bytes_of, expect
+from lab_texts import SENT, SHOWN, SUBMITS, batch_of, bytes_of, expect
 from plain_maps import change_of
 
 # Why no node may stop here.
-STOPS = ("stopped: damaged", "stopped: memory", "stopped: not created")
+STOPS = ("stopped: damaged", "stopped: memory", "stopped: not created", "stopped: old format")
 
 
 class ToldBatches:
@@ -22,24 +23,39 @@ class ToldBatches:
     def __init__(self, ids):
         """No batch, of a chain with these ids from head to tail."""
         self.ids, self.seen = ids, collections.Counter()
-        # The batches as changes, and the run and line of each one's submit.
-        self.batches, self.places = [], []
+        # The batches as changes, their marks, and the run and line of each one's submit.
+        self.batches, self.marks, self.places = [], [], []
+        # Of each client the number of the last batch that bears one of its marks.
+        self.last = {}
         # Of each key the numbers of the batches that change it, and what it has from there on.
         self.numbers, self.values = collections.defaultdict(list), {}
         self.acknowledged, self.run = 0, 0
-        # The edits and the place of a batch that the head may have behind these.
+        # A batch that the head may have behind these, and its place.
         self.unsure = None
 
     # ---- the list
 
-    def append(self, edits, place):
+    def append(self, batch, place):
         """The head took a batch."""
-        changes = [change_of(edit) for edit in edits]
+        expect(self.is_new(batch), f"{place}: a batch with a mark that is not its client's next")
+        changes = [change_of(edit) for edit in batch]
         self.batches.append(changes)
+        self.marks.append(batch.mark)
         self.places.append(place)
+        if batch.mark:
+            self.last[batch.mark.client] = len(self.batches)
         for key, value in dict(changes).items():
             self.numbers[key].append(len(self.batches))
             self.values[key, len(self.batches)] = value
+
+    def request_of(self, batch):
+        """The request of the last mark of the client of a batch's mark, or 0."""
+        number = self.last.get(batch.mark.client, 0)
+        return self.marks[number - 1].request if number else 0
+
+    def is_new(self, batch):
+        """Whether a batch bears no mark, or one of a greater request than its client's last one."""
+        return batch.mark is None or batch.mark.request > self.request_of(batch)
 
     def value_at(self, key, number):
         """What a key has after so many batches."""
@@ -77,12 +93,13 @@ class ToldBatches:
             self.cut_off(last)
 
     def cut_off(self, last):
-        """The run was cut off behind this line: its next submit may be in the list."""
+        """The run was cut off behind this line: its next new batch may be in the list."""
         for place, statement in enumerate(self.statements[last:], last + 1):
             words = statement.split(" ")
-            if words[:2] == ["submit", self.ids[0]]:
+            is_submit = words[0] in SUBMITS and words[1] == self.ids[0]
+            if is_submit and self.is_new(batch_of(words)):
                 expect(not self.unsure, "two unsure batches")
-                self.unsure = (words[2:], (self.run, place))
+                self.unsure = (batch_of(words), (self.run, place))
                 return
 
     def tell(self, place, text, rows):
@@ -98,9 +115,11 @@ class ToldBatches:
             self.read(words, text.split(" "))
         elif text.startswith("committed "):
             self.acknowledge(place, words, int(text.split(" ")[1]))
+        elif text == "refused 9 OldRequest":
+            self.refuse(place, batch_of(words))
         elif text.startswith(f"node {self.ids[0]} "):
             self.head(place, words, text)
-        elif words[0] == "submit" and (sent := SENT.fullmatch(text)):
+        elif words[0] in SUBMITS and (sent := SENT.fullmatch(text)):
             self.sent(place, words, sent)
         return []
 
@@ -108,20 +127,29 @@ class ToldBatches:
         """The head sent the batch of a submit."""
         number = int(sent[5].split(" ")[1])
         expect(number == len(self.batches) + 1, f"batch {number} behind {len(self.batches)}")
-        self.append(words[2:], (self.run, place))
+        self.append(batch_of(words), (self.run, place))
 
     def acknowledge(self, place, words, number):
-        """A batch is acknowledged: it is the one of its line."""
+        """A batch is acknowledged: it is the one of its line, or an earlier one with its mark."""
+        batch, here = batch_of(words), (self.run, place)
         if len(self.ids) == 1 and number == len(self.batches) + 1:
-            self.append(words[2:], (self.run, place))
+            self.append(batch, here)
         expect(number <= len(self.batches), f"batch {number} of {len(self.batches)}")
-        expect(self.places[number - 1] == (self.run, place), f"{place}: committed {number}")
+        is_repeat = batch.mark is not None and self.marks[number - 1] == batch.mark
+        self.seen["batch acknowledged again"] += is_repeat and self.places[number - 1] != here
+        is_it = self.places[number - 1] == here or is_repeat
+        expect(is_it and self.places[number - 1] <= here, f"{place}: committed {number}")
         self.acknowledged = max(self.acknowledged, number)
+
+    def refuse(self, place, batch):
+        """A request is refused as old: its client has a later one in the list."""
+        is_old = batch.mark is not None and batch.mark.request < self.request_of(batch)
+        expect(is_old, f"{place}: refused as old")
 
     def head(self, place, words, text):
         """The head stopped, started or was shown."""
-        if words[0] == "submit" and "stopped" in text:
-            self.unsure = (words[2:], (self.run, place))
+        if words[0] in SUBMITS and "stopped" in text and self.is_new(batch_of(words)):
+            self.unsure = (batch_of(words), (self.run, place))
         if " count " in text:
             self.count_is(int(text.split(" count ")[1].split(" ")[0]))
 
@@ -163,9 +191,9 @@ class ToldBatches:
         ids = [str(it) for it in version.ids]
         expect(str(version.node) == name and ids == self.ids, f"node {version.node} of {ids}")
         for number in range(store.kept + 1, store.count + 1):
-            is_so = store.batches[number] == self.batches[number - 1]
+            is_so = store.batches[number] == (self.marks[number - 1], self.batches[number - 1])
             expect(is_so, f"node {name}: another batch {number}")
-        for key in set(store.versions) | set(self.numbers):
+        for key in {*store.keys(), *self.numbers}:
             for number in (version.floor, store.count):
                 is_so = store.value_at(key, number) == self.value_at(key, number)
                 expect(is_so, f"node {name}: key {key} at {number}")

@@ -18,7 +18,7 @@ import tempfile
 
 sys.dont_write_bytecode = True
 sys.path.insert(0, os.path.dirname(os.path.dirname(os.path.abspath(__file__))))
-from lab_texts import read_script
+from lab_texts import SUBMITS, batch_of, read_script
 from plain_maps import page_of, value_at
 from swept_scripts import MEMORY
 
@@ -41,6 +41,7 @@ SCRIPTS = {
         "config 1 2 3\nconfig 1 3\nsubmit 1 a=1\ndeliver 1\nnotice 1 1\nnotice 3 1\nflow\ntick 1\n"
         "flow\nnotice 2 1\nget 2 a\nget 3 a\n"
     ),
+    "a batch with a mark, twice": "config 1\nonce 1 7 1 a=1\nonce 1 7 1 a=1\nget 1 a\n",
     "a notice that a fault strikes": (
         "config 1 2\nconfig 2\nnotice 2 1 !stop 4 01\nstart 2\nsubmit 2 a=1\nget 2 a\n"
     ),
@@ -68,10 +69,14 @@ def run(program, library, folder, script, settings):
 
 
 def lists_of(statements):
-    """The lists that a run can have: some of the submitted batches, by their lines, in their order."""
-    submits = [line for line, words in statements.items() if words[0] == "submit"]
+    """The lists that a run can have: some of the submitted batches, by their lines, in their order,
+    no two with one mark."""
+    submits = [line for line, words in statements.items() if words[0] in SUBMITS]
     for count in range(len(submits) + 1):
-        yield from itertools.combinations(submits, count)
+        for lines in itertools.combinations(submits, count):
+            marks = [it for line in lines if (it := batch_of(statements[line]).mark)]
+            if len(marks) == len({*marks}):
+                yield lines
 
 
 def replies_of(lines):
@@ -92,9 +97,10 @@ def is_reply(batches, statements, line, text):
     if number > len(batches):
         return False
     words, last = statements[line], text.split("\n")[-1]
-    edits = [statements[it][2:] for it in batches[:number]]
+    edits = [batch_of(statements[it]) for it in batches[:number]]
     if last.startswith("committed"):
-        return batches[number - 1] == line
+        mark = batch_of(words).mark
+        return batches[number - 1] == line or mark is not None and edits[-1].mark == mark
     if words[0] == "get":
         value = value_at(edits, words[2])
         return text == ("none" if value is None else f"value {value}") + f" at {number}"

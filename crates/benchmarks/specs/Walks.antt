@@ -2,9 +2,8 @@
 use Rattle.std.specs.Prelude.{◌≡◌, ℕ, ◌-◌, ◌==◌, List, [], ◌∷◌, ◌++◌, length, slice_get}
 use Rattle.std.specs.Prelude.{Bool, true, false, IsSomeAnd, Option, Some, None, if◌then◌else◌}
 use Rattle.std.specs.Option.{option_map_or}
-use Rattle.kv_types.specs.declared.bounds.TheConstants.{MAX_KEY}
-use Rattle.kv_types.specs.{Row}
-use Rattle.kv_types.specs.{Rows, Span}
+use Rattle.byte_fields.specs.declared.stored_key.TheConstants.{MAX_KEY}
+use Rattle.kv_types.specs.{Row, Rows, Span}
 use Rattle.benchmarks.specs.declared.count.Count.{Count}
 use Rattle.benchmarks.specs.Counts.{with_found, with_operations, with_page}
 

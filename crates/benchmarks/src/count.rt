@@ -125,7 +125,7 @@ impl Count {
         ensures { self.new ≡ with_found self.old rows.now key.now }
     {
         if let [row, ..] = rows {
-            if row.key().is_same(key.lent()) {
+            if row.key() == key.as_bytes() {
                 self.add_rows(rows);
             }
         }

@@ -1,6 +1,6 @@
 // A walk over all rows, page after page.
 ghost use Rattle.std.specs.Prelude.{◌≡◌, ◌==◌, ◌⊎◌, IfErr, IfOk, IsOk, OnErr, OnOk, length, false};
-ghost use Rattle.kv_types.specs.declared.bounds.TheConstants.{MAX_KEY};
+ghost use Rattle.byte_fields.specs.declared.stored_key.TheConstants.{MAX_KEY};
 ghost use Rattle.benchmarks.specs.Walks.{NoneBehind, NoneFits, first_range, range_behind};
 ghost use Rattle.benchmarks.specs.Walks.{range_left, range_passed, seek_range, with_passed};
 
@@ -23,7 +23,7 @@ fn range_behind(alloc: Global, row: &Row, is_backward: bool) -> Result<Range, Kv
     ensures refused { IfErr result (λ e. (e ≡ KvError.Memory) ⊎ ((e ≡ KvError.KeyTooLong)
         × (is_backward ≡ false) × (length row.now.key ≡ MAX_KEY))) }
 {
-    let mut bytes = row.key().as_bytes().to_vec(alloc)?;
+    let mut bytes = row.key().to_vec(alloc)?;
     if is_backward {
         let bound = Key::new(bytes)?;
         return Range::new(Key::new(Vec::new(alloc))?, Some(bound), true, ROWS);

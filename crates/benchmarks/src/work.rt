@@ -1,7 +1,7 @@
 // The numbers of keys that a benchmark uses, batches of puts to them, and its walk.
 ghost use Rattle.std.specs.Prelude.{◌≡◌, ◌<◌, ◌⊎◌, IfErr, IfOk, OnOk, OnErr, Some};
 ghost use Rattle.std.specs.Borrow.{sem};
-ghost use Rattle.kv_types.specs.{batch_error};
+ghost use Rattle.kv_types.specs.{batch_error, unmarked};
 ghost use Rattle.kv_types.specs.Content.{edits_of};
 ghost use Rattle.kv_types.specs.declared.bounds.TheConstants.{MAX_VALUE};
 ghost use Rattle.benchmarks.specs.Keys.{first_seed};
@@ -110,7 +110,7 @@ impl Work {
         ensures behind { OnOk result (self.new ≡ behind_puts puts self.old) }
         ensures refused { IfErr result (λ e. (e ≡ KvError.Memory)
             ⊎ ((e ≡ KvError.ValueTooLong) × (MAX_VALUE < self.old.values.size))
-            ⊎ (batch_error (next_puts puts self.old) ≡ Some e)) }
+            ⊎ (batch_error (unmarked (next_puts puts self.old)) ≡ Some e)) }
     {
         let mut edits = Vec::new(alloc);
         for _ in 0..puts {

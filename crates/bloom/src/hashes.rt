@@ -1,7 +1,9 @@
 // The two hashes of a key, and the probes computed from them.
 ghost use Rattle.std.specs.Prelude.{◌≡◌, ◌<◌, ◌+◌, ◌%◌, ℕ};
+ghost use Rattle.byte_fields.specs.{lent_key};
 ghost use Rattle.bloom.specs.Filters.{hashes_of};
 
+use byte_fields::LentKey;
 use byteorder::{BigEndian, ByteOrder};
 use sha2::{Digest, Sha256};
 use std::marker::Model;
@@ -31,6 +33,20 @@ impl KeyHashes {
         KeyHashes {
             first: BigEndian::read_u64(&digest[..8]),
             second: BigEndian::read_u64(&digest[8..16]),
+        }
+    }
+
+    /// The hashes of a stored key: those of the number of its space and its bytes.
+    pub fn of_stored(key: LentKey) -> KeyHashes
+        ensures { result ≡ hashes_of (lent_key key.entry) }
+    {
+        let mut hasher = Sha256::new();
+        hasher.update(&[key.space().number()]);
+        hasher.update(key.as_bytes());
+        let hash = hasher.finalize();
+        KeyHashes {
+            first: BigEndian::read_u64(&hash[..8]),
+            second: BigEndian::read_u64(&hash[8..16]),
         }
     }
 }

@@ -1,18 +1,25 @@
 -- What a node knows after a step, and the machine after it.
 use Rattle.std.proofs.Common.{◌≡◌, ℕ, suc, ◌+◌, List, [], ◌∷◌, ◌++◌, length, Bool, true, max}
-use Rattle.std.proofs.Common.{false, refl, sym, ap, subst, ◌∙◌, length-append, arith}
+use Rattle.std.proofs.Common.{◌≤◌, ◌<◌, nat_le, le-leb, false, refl, sym, ap, subst, ◌∙◌}
+use Rattle.std.proofs.Common.{length-append, arith}
 use Rattle.std.specs.Prelude.{if◌then◌else◌, Option, Some, SomeIff}
-use Rattle.kv_types.specs.{BatchContent, has}
+use Rattle.kv_types.specs.{BatchContent, Edits, has}
 use Rattle.configurations.specs.{is_tail}
 use Rattle.chain_model.specs.{due, not_due, accept, append, on_ack, longer_for}
 use Rattle.chain_model.specs.{ack, acknowledge, forward}
-use Rattle.chain_model.specs.Rules.{adopt, moved}
+use Rattle.chain_model.specs.Rules.{adopt, moved, queued, repeat}
+use Rattle.chain_model.specs.RulesLemmas.{prior_least}
+use Rattle.chain_model.specs.Machine.{Answer, replied, silent}
+use Rattle.chain_model.specs.Requests.{Committed}
+use Rattle.std.specs.List.{insert}
+use Rattle.std.proofs.lemmas.Bool.{cond-true, cond-false, lt-leb}
 use Rattle.chain_core.specs.declared.pending_submit.PendingSubmit.{PendingSubmit}
 use Rattle.chain_core.specs.States.{Machine, Core, CoreRefines, IsInOrder, waiting}
 use Rattle.chain_core.specs.States.{committed_responses}
-use Rattle.chain_core.specs.Queues.{front, behind}
+use Rattle.chain_core.specs.Queues.{front, behind, place_behind}
 use Rattle.chain_core.specs.Decisions.{CoreFollows}
 use Rattle.chain_core.proofs.Queues.{due_front, not_due_behind, waiting_push, push_in_order}
+use Rattle.chain_core.proofs.Queues.{waiting_queued}
 
 -- a tail commits its full list, another node what it had committed
 pub committed_by : (b : Bool) (n : Machine) →
@@ -47,7 +54,7 @@ next_of o P old count number found some same =
 module _ (core : Core) (n : Machine) (is : CoreRefines core n) where
   -- after a batch of the head
   module _ (i : ℕ) (batch : BatchContent) (number c : ℕ) (next : number ≡ suc core.count)
-      (ordered : IsInOrder 0 core.count core.pending)
+      (ordered : IsInOrder (1, 0) core.count core.pending)
       (commits : c ≡ (if is_tail core.ids core.id then number else core.committed)) where
     abbrev pub all : List PendingSubmit
     all = core.pending ++ record { number = number; request = i } ∷ []
@@ -63,7 +70,8 @@ module _ (core : Core) (n : Machine) (is : CoreRefines core n) where
         let m : Machine = record (longer_for n i batch) { committed = c' } in
         let long = longer n batch core.count number is.count next in
         let same : c' ≡ c = rw (is.ids, long, is.committed) (sym commits) in
-        let rises = push_in_order 0 core.count core.pending asked ordered (omega arith) next in
+        let rises = push_in_order (1, 0) core.count core.pending asked ordered
+        (prior_least (number, i) (omega (arith, next))) next in
         let waits : m.pending ≡ waiting all =
         rw (is.pending, is.count, ← next) (sym (waiting_push core.pending asked)) in
         let base : CoreFollows new (acknowledge m (forward core.id m (suc (length n.list))))
@@ -79,16 +87,57 @@ module _ (core : Core) (n : Machine) (is : CoreRefines core n) where
             successor_has = is.successor_has;
             snapshots = is.snapshots;
             pending = ap (λ (k : ℕ). not_due k m.pending) same ∙ (ap (not_due c) waits
-                ∙ (not_due_behind 0 number c all rises ∙ ap waiting (sym left)));
+                ∙ (not_due_behind (1, 0) number c all rises ∙ ap waiting (sym left)));
             running = is.running;
           };
-          replied = ap (λ (k : ℕ). due {A = BatchContent} k m.pending) same
-              ∙ (ap (due {A = BatchContent} c) waits
-              ∙ (due_front 0 number c all rises ∙ ap committed_responses (sym out)));
+          replied = ap (λ (k : ℕ). due {A = Edits} k m.pending) same
+              ∙ (ap (due {A = Edits} c) waits
+              ∙ (due_front (1, 0) number c all rises ∙ ap committed_responses (sym out)));
         } in
         subst (λ (k : Machine). CoreFollows new
         (acknowledge k (forward core.id k (suc (length n.list)))) (committed_responses answered))
         (sym (committed_by (is_tail n.ids core.id) (longer_for n i batch))) base
+
+  -- after a request that submits again a batch whose number is committed
+  pub follows_known : (i k : ℕ) → k ≤ core.committed → CoreFollows core (repeat n i k)
+      (committed_responses (record { number = k; request = i } ∷ []))
+  follows_known i k le =
+      let known : PendingSubmit = record { number = k; request = i } in
+      let waits = silent (record n { pending = queued (k, i) n.pending }) in
+      let replies = committed_responses (known ∷ []) in
+      subst (λ (a : Answer Edits). CoreFollows core a replies)
+      (sym (cond-true (nat_le k n.committed) (replied n (Committed i k)) waits
+      (le-leb k n.committed (omega (arith, le, is.committed)))))
+      (record { is = is; replied = refl })
+
+  -- .. or is not
+  pub follows_queued : (i k : ℕ) → core.committed < k → (pending : List PendingSubmit)
+      → pending ≡ insert core.pending (place_behind (record { number = k; request = i })
+      core.pending) (record { number = k; request = i })
+      → CoreFollows (record core { pending = pending }) (repeat n i k) (committed_responses [])
+  follows_queued i k lt pending put =
+      let asked : PendingSubmit = record { number = k; request = i } in
+      let m : Machine = record n { pending = queued (k, i) n.pending } in
+      let new : Core = record core { pending = pending } in
+      subst (λ (a : Answer Edits). CoreFollows new a (committed_responses []))
+      (sym (cond-false (nat_le k n.committed) (replied n (Committed i k)) (silent m)
+      (lt-leb k n.committed (omega (arith, lt, is.committed)))))
+      (record {
+        is = record {
+          epoch = is.epoch;
+          ids = is.ids;
+          count = is.count;
+          committed = is.committed;
+          floor = is.floor;
+          kept = is.kept;
+          successor_has = is.successor_has;
+          snapshots = is.snapshots;
+          pending = ap (queued (k, i)) is.pending ∙ (sym (waiting_queued asked core.pending)
+              ∙ ap waiting (sym put));
+          running = is.running;
+        };
+        replied = refl;
+      })
 
   -- after a batch of the predecessor
   pub follows_append : (batch : BatchContent) (number c : ℕ) → number ≡ suc core.count →
@@ -118,7 +167,7 @@ module _ (core : Core) (n : Machine) (is : CoreRefines core n) where
   -- the state after the successor's report
   pub follows_told : (committed have c has : ℕ) (pending due : List PendingSubmit) →
       c ≡ max core.committed committed → has ≡ max core.successor_has have →
-      IsInOrder 0 core.count core.pending →
+      IsInOrder (1, 0) core.count core.pending →
       pending ≡ behind c core.pending → due ≡ front c core.pending →
       CoreFollows (record core { committed = c; successor_has = has; pending = pending })
       (on_ack core.id n committed have) (committed_responses due)
@@ -136,18 +185,19 @@ module _ (core : Core) (n : Machine) (is : CoreRefines core n) where
           successor_has = ap (λ (k : ℕ). max k have) is.successor_has ∙ sym more;
           snapshots = is.snapshots;
           pending = ap (λ (k : ℕ). not_due k n.pending) same ∙ (ap (not_due c) is.pending
-              ∙ (not_due_behind 0 core.count c core.pending ordered ∙ ap waiting (sym left)));
+              ∙ (not_due_behind (1, 0) core.count c core.pending ordered ∙ ap waiting (sym left)));
           running = is.running;
         };
-        replied = ap (λ (k : ℕ). due {A = BatchContent} k n.pending) same
-            ∙ (ap (due {A = BatchContent} c) is.pending
-            ∙ (due_front 0 core.count c core.pending ordered ∙ ap committed_responses (sym out)));
+        replied = ap (λ (k : ℕ). due {A = Edits} k n.pending) same
+            ∙ (ap (due {A = Edits} c) is.pending
+            ∙ (due_front (1, 0) core.count c core.pending ordered
+            ∙ ap committed_responses (sym out)));
       }
 
   -- the state after a later configuration was adopted
   pub follows_adopt : (epoch : ℕ) (ids : List ℕ) (c : ℕ) (waits pending due : List PendingSubmit) →
       c ≡ (if is_tail ids core.id then core.count else core.committed) →
-      waits ≡ (if has ids core.id then core.pending else []) → IsInOrder 0 core.count waits →
+      waits ≡ (if has ids core.id then core.pending else []) → IsInOrder (1, 0) core.count waits →
       pending ≡ behind c waits → due ≡ front c waits →
       CoreFollows (record core {
         epoch = epoch;
@@ -180,12 +230,12 @@ module _ (core : Core) (n : Machine) (is : CoreRefines core n) where
           successor_has = same;
           snapshots = is.snapshots;
           pending = ap (λ (k : ℕ). not_due k m.pending) same ∙ (ap (not_due c) same_pending
-              ∙ (not_due_behind 0 core.count c waits ordered ∙ ap waiting (sym left)));
+              ∙ (not_due_behind (1, 0) core.count c waits ordered ∙ ap waiting (sym left)));
           running = is.running;
         };
-        replied = ap (λ (k : ℕ). due {A = BatchContent} k m.pending) same
-            ∙ (ap (due {A = BatchContent} c) same_pending
-            ∙ (due_front 0 core.count c waits ordered ∙ ap committed_responses (sym out)));
+        replied = ap (λ (k : ℕ). due {A = Edits} k m.pending) same
+            ∙ (ap (due {A = Edits} c) same_pending
+            ∙ (due_front (1, 0) core.count c waits ordered ∙ ap committed_responses (sym out)));
       } in
       subst (λ (m : Machine). CoreFollows new
       (let k : Machine = record m { successor_has = m.committed } in acknowledge k (ack x k))

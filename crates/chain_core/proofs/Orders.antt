@@ -10,7 +10,7 @@ use Rattle.chain_core.proofs.Snapshots.{snapshots_stay}
 module _ (core : Core) (o : HasOrderedNumbers core) where
   longer_where : (b : Bool) → is_tail core.ids core.id ≡ b → (number c : ℕ)
       (pending : List PendingSubmit) → number ≡ suc core.count →
-      c ≡ (if b then number else core.committed) → IsInOrder 0 number pending →
+      c ≡ (if b then number else core.committed) → IsInOrder (1, 0) number pending →
       HasOrderedNumbers (record core { count = number; committed = c; pending = pending })
   longer_where true tail number c pending next commits rises = record {
     kept = o.kept;
@@ -36,14 +36,27 @@ module _ (core : Core) (o : HasOrderedNumbers core) where
   -- after one more batch, which a tail commits
   pub ordered_longer : (number c : ℕ) (pending : List PendingSubmit) → number ≡ suc core.count →
       c ≡ (if is_tail core.ids core.id then number else core.committed) →
-      IsInOrder 0 number pending →
+      IsInOrder (1, 0) number pending →
       HasOrderedNumbers (record core { count = number; committed = c; pending = pending })
   ordered_longer = longer_where (is_tail core.ids core.id) refl
+
+  -- the order with other requests, which are in order
+  pub ordered_queued : (pending : List PendingSubmit) → IsInOrder (1, 0) core.count pending →
+      HasOrderedNumbers (record core { pending = pending })
+  ordered_queued pending rises = record {
+    kept = o.kept;
+    floor = o.floor;
+    committed = o.committed;
+    successor_has = o.successor_has;
+    sent = o.sent;
+    pending = rises;
+    snapshots = o.snapshots;
+  }
 
   -- the order after the successor's report
   pub ordered_told : (committed have c has : ℕ) (pending : List PendingSubmit) →
       c ≡ max core.committed committed → has ≡ max core.successor_has have → committed ≤ have →
-      have ≤ core.count → IsInOrder 0 core.count pending →
+      have ≤ core.count → IsInOrder (1, 0) core.count pending →
       HasOrderedNumbers (record core { committed = c; successor_has = has; pending = pending })
   ordered_told committed have c has pending greater more told there rises = record {
     kept = o.kept;
@@ -57,7 +70,7 @@ module _ (core : Core) (o : HasOrderedNumbers core) where
   }
 
   adopted_where : (b : Bool) (epoch c : ℕ) (ids : List ℕ) (pending : List PendingSubmit) →
-      c ≡ (if b then core.count else core.committed) → IsInOrder 0 core.count pending →
+      c ≡ (if b then core.count else core.committed) → IsInOrder (1, 0) core.count pending →
       HasOrderedNumbers (record core {
         epoch = epoch;
         ids = ids;
@@ -89,7 +102,7 @@ module _ (core : Core) (o : HasOrderedNumbers core) where
   -- the order after a later configuration was adopted
   pub ordered_adopted : (epoch c : ℕ) (ids : List ℕ) (pending : List PendingSubmit) →
       c ≡ (if is_tail ids core.id then core.count else core.committed) →
-      IsInOrder 0 core.count pending →
+      IsInOrder (1, 0) core.count pending →
       HasOrderedNumbers (record core {
         epoch = epoch;
         ids = ids;

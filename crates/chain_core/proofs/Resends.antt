@@ -3,7 +3,7 @@ use Rattle.std.proofs.Common.{◌≡◌, ℕ, zero, suc, ◌+◌, ◌<◌, ◌�
 use Rattle.std.proofs.Common.{Option, Some, None, Bool, true, not, refl, sym, ap, ◌∙◌, arith}
 use Rattle.std.specs.Option.{is_some}
 use Rattle.std.proofs.lemmas.Bool.{true≢false}
-use Rattle.kv_types.specs.{BatchContent, place}
+use Rattle.kv_types.specs.{BatchContent, Edits, place}
 use Rattle.configurations.specs.{successor}
 use Rattle.chain_model.specs.{Message, forward, forward_to, forwards}
 use Rattle.chain_core.specs.States.{Machine}
@@ -35,7 +35,7 @@ module _ (x : ℕ) (n : Machine) where
   sent_to_count (suc c) (suc m) k few last =
       let less = sent_to_count c m (suc k) (omega (arith, few))
       (λ l. omega (arith, last (omega (arith, l)))) in
-      ap (λ (fs : List (Message BatchContent)). forward x n (suc k) ++ fs) less
+      ap (λ (fs : List (Message Edits)). forward x n (suc k) ++ fs) less
 
   -- nothing is sent without a successor
   pub none_sent : (c k : ℕ) → successor n.ids x ≡ None → forwards x n k c ≡ []

@@ -2,15 +2,18 @@
 use Rattle.std.proofs.Common.{◌≡◌, ℕ, zero, suc, ◌+◌, List, [], ◌∷◌, ◌++◌, length, Option}
 use Rattle.std.proofs.Common.{Some, None, refl, sym, ap, subst, ◌∙◌, append_assoc, append-nil}
 use Rattle.std.proofs.Common.{arith}
-use Rattle.std.specs.Prelude.{if◌then◌else◌, nat_lt}
-use Rattle.kv_types.specs.{BatchContent, place}
+use Rattle.std.specs.Prelude.{if◌then◌else◌, nat_lt, nat_le}
+use Rattle.kv_types.specs.{BatchContent, Edits, place}
 use Rattle.configurations.specs.{is_tail, predecessor, successor}
 use Rattle.chain_model.specs.{Message, Answer, not_due, ack}
 use Rattle.chain_model.specs.{ack_to, acknowledge, forward, forward_to, forwards, longer_for, acked}
 use Rattle.chain_core.specs.declared.done.Done.TheVariants as done
 use Rattle.chain_core.specs.States.{Machine}
 use Rattle.chain_core.specs.Steps.{StepLeaves, StepsLeave, StandsLast, OneByOne}
-use Rattle.chain_model.specs.Rules.{moved}
+use Rattle.chain_model.specs.Rules.{moved, queued}
+use Rattle.chain_model.specs.Machine.{replied, silent}
+use Rattle.chain_model.specs.Requests.{Committed}
+use Rattle.std.proofs.lemmas.Bool.{cond_both}
 use Rattle.chain_core.proofs.After.{adopted_at, committed_by}
 
 -- frames do not depend on the pending requests
@@ -72,8 +75,32 @@ steps_leave x n batch (done.Accepted i) =
     subst (λ (m : Machine). StepLeaves x n batch (done.Accepted i)
     (acknowledge m (forward x m (suc (length n.list)))))
     (sym (committed_by (is_tail n.ids x) (longer_for n i batch))) (accepted x n batch i)
+steps_leave x n batch (done.Repeated i k) =
+    cond_both (nat_le k n.committed) (replied n (Committed i k))
+    (silent (record n { pending = queued (k, i) n.pending }))
+    (StepLeaves x n batch (done.Repeated i k))
+    (λ le. record {
+      list = refl;
+      epoch = refl;
+      ids = refl;
+      floor = refl;
+      kept = refl;
+      snapshots = refl;
+      frames = refl;
+      dropped = refl;
+    })
+    (λ gt. record {
+      list = refl;
+      epoch = refl;
+      ids = refl;
+      floor = refl;
+      kept = refl;
+      snapshots = refl;
+      frames = refl;
+      dropped = refl;
+    })
 steps_leave x n batch done.Appended =
-    let answer : Machine → Answer BatchContent = λ m. record {
+    let answer : Machine → Answer Edits = λ m. record {
       node = m;
       frames = forward x m (suc (length n.list)) ++ (if is_tail m.ids x then ack x m else []);
       replies = [];
@@ -103,7 +130,7 @@ steps_leave x n batch (done.Acked committed have) =
       kept = refl;
       snapshots = refl;
       frames = ap
-          (λ (fs : List (Message BatchContent)). if nat_lt n.committed committed then fs else [])
+          (λ (fs : List (Message Edits)). if nat_lt n.committed committed then fs else [])
           (same_ack (predecessor n.ids x) x m (not_due m.committed m.pending));
       dropped = refl;
     }
@@ -145,5 +172,5 @@ one_by_one x n k (suc m) =
     let others = forwards x n (suc k) m in
     let same : suc k + m ≡ k + suc m = omega arith in
     let rest = one_by_one x n (suc k) m ∙ ap (λ (j : ℕ). others ++ forward x n (suc j)) same in
-    ap (λ (fs : List (Message BatchContent)). first ++ fs) rest
+    ap (λ (fs : List (Message Edits)). first ++ fs) rest
     ∙ sym (append_assoc first others (forward x n (suc (k + suc m))))

@@ -1,8 +1,8 @@
 -- Decisions on inputs, and their execution: the rules of the chain's model by name.
 use Rattle.std.specs.Prelude.{◌≡◌, ◌≤◌, ◌<◌, ℕ, suc, List, ◌∷◌, length, map, Option}
-use Rattle.std.specs.Prelude.{Some, None, Result, IfOk, OnErr, IsTrue, All}
+use Rattle.std.specs.Prelude.{Some, None, Result, IfOk, IfSome, OnErr, IsTrue, All}
 use Rattle.kv_types.specs.declared.bounds.TheConstants.{MAX_NUMBER}
-use Rattle.kv_types.specs.{BatchContent}
+use Rattle.kv_types.specs.{BatchContent, Edits}
 use Rattle.chain_model.specs as model_frame
 use Rattle.chain_model.specs.{Answer, dropped_for, refused, ask, receive, tick, accept, append}
 use Rattle.chain_model.specs.{ack_duplicate, on_ack, resend, reply_read, Message, Request}
@@ -24,9 +24,12 @@ use Rattle.chain_core.specs.declared.error.CoreError.{CoreError}
 use Rattle.chain_core.specs.declared.sending.Sent.{Sent}
 use Rattle.chain_core.specs.declared.pending_submit.PendingSubmit.{PendingSubmit}
 use Rattle.chain_core.specs.States.{Machine, Core, CoreRefines, committed_responses}
+use Rattle.chain_model.specs.Rules.{repeat}
+use Rattle.kv_types.specs.declared.mark.HeldMark.{HeldMark}
+use Rattle.chain_core.specs.Marks.{IsHeldFor}
 
 -- the answer of the machine of node x to an input
-abbrev pub answer_to : ℕ → Machine → Input → Answer BatchContent
+abbrev pub answer_to : ℕ → Machine → Input → Answer Edits
 answer_to x n (input.Submit request batch) = ask x n request (Request.Submit batch)
 answer_to x n (input.Get request key at) = ask x n request (Request.Read at)
 answer_to x n (input.Rows request range at) = ask x n request (Request.Read at)
@@ -40,8 +43,9 @@ answer_to x n (input.Notice epoch ids) = notice x n epoch ids
 answer_to x n input.Tick = tick x n
 
 -- the rule that a decision names
-abbrev pub rule_of : ℕ → Machine → Decision → Answer BatchContent
+abbrev pub rule_of : ℕ → Machine → Decision → Answer Edits
 rule_of x n (decision.Accept request batch) = accept x n request batch
+rule_of x n (decision.Repeat request number) = repeat n request number
 rule_of x n (decision.Append batch) = append x n (suc (length n.list)) batch
 rule_of x n decision.AckDuplicate = ack_duplicate x n
 rule_of x n (decision.OnAck committed have) = on_ack x n committed have
@@ -70,8 +74,9 @@ pub record Decides (x : ℕ) (n : Machine) (input : Input) (decision : Decision)
   pub read : IsReadOf n input decision
 
 -- the rule that was done, with this batch if one was appended
-abbrev pub done_of : ℕ → Machine → BatchContent → Done → Answer BatchContent
+abbrev pub done_of : ℕ → Machine → BatchContent → Done → Answer Edits
 done_of x n batch (done.Accepted request) = accept x n request batch
+done_of x n batch (done.Repeated request number) = repeat n request number
 done_of x n batch done.Appended = append x n (suc (length n.list)) batch
 done_of x n batch (done.Acked committed have) = on_ack x n committed have
 done_of x n batch (done.Adopted epoch ids) = adopt x n epoch ids
@@ -108,6 +113,7 @@ pub record IsRiseOf (core : Core) (floor kept : ℕ) : Type 0 where
 -- number that is closed.
 abbrev pub DoneFits : Core → Done → Type 0
 DoneFits core (done.Accepted request) = core.count < MAX_NUMBER
+DoneFits core (done.Repeated request number) = number ≤ core.count
 DoneFits core done.Appended = core.count < MAX_NUMBER
 DoneFits core (done.Acked committed have) = IsReport core committed have
 DoneFits core (done.Adopted epoch ids) = IsAdoptable core epoch ids
@@ -117,6 +123,7 @@ DoneFits core (done.Closed request number) = IsTrue (is_open number core.snapsho
 -- the decision can be executed by these numbers
 abbrev pub DecisionFits : Core → Decision → Type 0
 DecisionFits core (decision.Accept request batch) = core.count < MAX_NUMBER
+DecisionFits core (decision.Repeat request number) = number ≤ core.count
 DecisionFits core (decision.Append batch) = core.count < MAX_NUMBER
 DecisionFits core (decision.OnAck committed have) = IsReport core committed have
 DecisionFits core (decision.Adopt epoch ids) = IsAdoptable core epoch ids
@@ -128,23 +135,34 @@ DecisionFits core _ = Unit {0}
 pub record IsReadAt (core : Core) (at : Option ℕ) (s : ℕ) : Type 0 where
   pub floor : core.floor ≤ s
   pub committed : s ≤ core.committed
-  pub answered : (n : Machine) (i : ℕ) (answer : Answer BatchContent) → CoreRefines core n →
+  pub answered : (n : Machine) (i : ℕ) (answer : Answer Edits) → CoreRefines core n →
       (number_read n at ≡ s) × (if_readable core.id n i (number_read n at) answer ≡ answer)
 
 -- the number that a client asks for is refused at each machine with these numbers
 abbrev pub IsRefused : Core → Option ℕ → Refusal → Type 0
-IsRefused core at why = (n : Machine) (i : ℕ) (answer : Answer BatchContent) →
+IsRefused core at why = (n : Machine) (i : ℕ) (answer : Answer Edits) →
     CoreRefines core n → if_readable core.id n i (number_read n at) answer ≡ refused n i why
 
 -- A decision on an input, by a node's numbers: it names the rule of each machine that they refine,
--- and it can be executed by them.
+-- whatever marks its list holds, and it can be executed by them.
 pub record IsDecisionOn (core : Core) (input : Input) (decision : Decision) : Type 0 where
   pub decides : (n : Machine) → CoreRefines core n → Decides core.id n input decision
   pub room : DecisionFits core decision
 
+-- The decision names the rule of each machine that the numbers refine, and whose list holds this
+-- mark for the input's client.
+abbrev pub DecidesFor : Core → Option HeldMark → Input → Decision → Type 0
+DecidesFor core held input decision = (n : Machine) → CoreRefines core n
+    → IsHeldFor input n.list held → Decides core.id n input decision
+
+-- The decision can be executed by the numbers, where the held mark is of one of their batches.
+abbrev pub FitsFor : Core → Option HeldMark → Decision → Type 0
+FitsFor core held decision =
+    IfSome held (λ it. it.number ≤ core.count) → DecisionFits core decision
+
 -- the replies after the store's part of a step: of a snapshot to its own request, and to the
 -- requests whose batches are now committed
-abbrev pub responses_after : Done → List PendingSubmit → List (Response BatchContent)
+abbrev pub responses_after : Done → List PendingSubmit → List (Response Edits)
 responses_after (done.Opened request number) due =
     Opened request number ∷ committed_responses due
 responses_after (done.Closed request number) due =
@@ -152,8 +170,8 @@ responses_after (done.Closed request number) due =
 responses_after _ due = committed_responses due
 
 -- the state refines the machine of the answer, which has these replies
-pub record CoreFollows (new : Core) (answer : Answer BatchContent)
-    (replies : List (Response BatchContent)) : Type 0 where
+pub record CoreFollows (new : Core) (answer : Answer Edits)
+    (replies : List (Response Edits)) : Type 0 where
   pub is : CoreRefines new answer.node
   pub replied : answer.replies ≡ replies
 
@@ -169,7 +187,7 @@ pub record CoreApplies (old new : Core) (done : Done)
   pub memory : OnErr result (new ≡ old)
 
 -- the model's frame of a frame between nodes
-abbrev pub frame_as : ℕ → Frame → Option (model_frame.Message BatchContent)
+abbrev pub frame_as : ℕ → Frame → Option (model_frame.Message Edits)
 frame_as to (frame.Forward epoch from number batch) =
     Some (Message.Forward to epoch from number batch)
 frame_as to (frame.Ack epoch from committed have) =
@@ -177,5 +195,5 @@ frame_as to (frame.Ack epoch from committed have) =
 frame_as to _ = None
 
 -- the sent frames are these frames of the model, one by one
-abbrev pub AreFrames : List Sent → List (model_frame.Message BatchContent) → Type 0
+abbrev pub AreFrames : List Sent → List (model_frame.Message Edits) → Type 0
 AreFrames sent frames = map (λ it. frame_as it.to it.frame) sent ≡ map Some frames

@@ -3,12 +3,14 @@ pub mod CoreState
 pub mod Queues
 pub mod ShortLists
 pub mod SentFrames
+pub mod Marks
 pub mod Decisions
 pub mod Steps
 -- What crates above name.
 pub use Rattle.chain_core.specs.Decisions.{AreFrames, CoreFollows, Decides, DecisionFits}
 pub use Rattle.chain_core.specs.Decisions.{DoneFits, HasRoomAt, IsReadOf, IsReport, IsRiseOf}
 pub use Rattle.chain_core.specs.Decisions.{IsAdoptable}
+pub use Rattle.chain_core.specs.Marks.{IsHeldFor, client_of}
 pub use Rattle.chain_core.specs.Decisions.{answer_to, done_of, frame_as, responses_after, rule_of}
 pub use Rattle.chain_core.specs.States.{AreSnapshots, Core, CoreRefines, IsAtStart}
 pub use Rattle.chain_core.specs.States.{HasOrderedNumbers, IsStartOf, Machine}

@@ -1,16 +1,17 @@
 -- The numbers of a node without its batches, and the machine of the chain's model with them.
-use Rattle.std.specs.Prelude.{◌≡◌, ◌≤◌, ◌<◌, ℕ, List, [], ◌∷◌, length, map, true, false, All}
-use Rattle.std.specs.Prelude.{if◌then◌else◌}
-use Rattle.kv_types.specs.{BatchContent}
+use Rattle.std.specs.Prelude.{◌≡◌, ◌≤◌, ℕ, List, [], ◌∷◌, length, map, true, false, All}
+use Rattle.std.specs.Prelude.{if◌then◌else◌, IsTrue}
+use Rattle.kv_types.specs.{Edits}
 use Rattle.configurations.specs.{is_tail}
 use Rattle.chain_model.specs.{Response, Committed}
 use Rattle.chain_model.specs as model
+use Rattle.chain_model.specs.Rules.{is_prior}
 use Rattle.chain_core.specs.declared.pending_submit.PendingSubmit.{PendingSubmit}
 use Rattle.chain_core.specs.declared.persistent_state.PersistentState.{PersistentState}
 
 -- the machine of a node whose batches are lists of edits
 abbrev pub Machine : Type 0
-Machine = model.MachineState BatchContent
+Machine = model.MachineState Edits
 
 -- the state of a node besides its batches
 pub record Core : Type 0 where
@@ -25,9 +26,13 @@ pub record Core : Type 0 where
   pub snapshots : List ℕ
   pub pending : List PendingSubmit
 
+-- a pending request as the model has it
+abbrev pub asked : PendingSubmit → ℕ × ℕ
+asked it = (it.number, it.request)
+
 -- pending requests as the model has them
 abbrev pub waiting : List PendingSubmit → List (ℕ × ℕ)
-waiting pending = map (λ it. (it.number, it.request)) pending
+waiting pending = map asked pending
 
 -- a running machine has these numbers
 pub record CoreRefines (core : Core) (n : Machine) : Type 0 where
@@ -69,18 +74,19 @@ pub record IsStartOf (rest : PersistentState) (core : Core) : Type 0 where
   pub kept : core.kept ≡ rest.kept
   pub begins : IsAtStart core
 
--- the numbers of the requests rise, each above the first bound and at most the second
-abbrev pub IsInOrder : (above most : ℕ) → List PendingSubmit → Type 0
-IsInOrder above most [] = Unit {0}
-IsInOrder above most (it ∷ rest) =
-    (above < it.number) × (it.number ≤ most) × IsInOrder it.number most rest
+-- the requests are in order of number, and those of one number in order of request: each goes
+-- behind the one before, the first behind this one, and no number is greater than the bound
+abbrev pub IsInOrder : (before : ℕ × ℕ) → (most : ℕ) → List PendingSubmit → Type 0
+IsInOrder before most [] = Unit {0}
+IsInOrder before most (it ∷ rest) =
+    IsTrue (is_prior before (asked it)) × (it.number ≤ most) × IsInOrder (asked it) most rest
 
 -- each snapshot is at a number from the floor to the committed number, and at most 64 are open
 pub record AreSnapshots (floor committed : ℕ) (snapshots : List ℕ) : Type 0 where
   pub within : All (λ s. (floor ≤ s) × (s ≤ committed)) snapshots
   pub few : length snapshots ≤ 64
 
--- the order of a node's numbers, with pending requests of rising numbers
+-- the order of a node's numbers, with pending requests in order of number from 1 on
 pub record HasOrderedNumbers (core : Core) : Type 0 where
   pub kept : core.kept ≤ core.floor
   pub floor : core.floor ≤ core.committed
@@ -88,9 +94,9 @@ pub record HasOrderedNumbers (core : Core) : Type 0 where
   -- the successor has every batch that the node knows to be committed; a tail has no successor
   pub successor_has : is_tail core.ids core.id ≡ false → core.committed ≤ core.successor_has
   pub sent : core.successor_has ≤ core.count
-  pub pending : IsInOrder 0 core.count core.pending
+  pub pending : IsInOrder (1, 0) core.count core.pending
   pub snapshots : AreSnapshots core.floor core.committed core.snapshots
 
 -- each request is acknowledged: its batch is committed
-abbrev pub committed_responses : List PendingSubmit → List (Response BatchContent)
+abbrev pub committed_responses : List PendingSubmit → List (Response Edits)
 committed_responses due = map (λ it. Committed it.request it.number) due

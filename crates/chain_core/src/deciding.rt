@@ -1,15 +1,47 @@
 // The rule for each input, by the numbers of the node that receives it.
-ghost use Rattle.std.specs.Prelude.{MatchResult};
-ghost use Rattle.chain_core.specs.Decisions.{IsDecisionOn, IsReadAt, IsRefused};
+ghost use Rattle.std.specs.Prelude.{◌≡◌, MatchResult};
+ghost use Rattle.kv_types.specs.{mark_of};
+ghost use Rattle.chain_core.specs.Decisions.{DecidesFor, FitsFor, IsDecisionOn, IsReadAt};
+ghost use Rattle.chain_core.specs.Decisions.{IsRefused};
+ghost use Rattle.chain_core.specs.Marks.{request_order};
 
 use crate::{CoreState, Decision, DropReason, Input};
 use configurations::{Config, Epoch, NodeId};
 use kv_types::bounds::MAX_NUMBER;
-use kv_types::{Batch, Key, Number};
+use kv_types::{Batch, HeldMark, Key, Number};
 use link_messages::{BoxedRange, Refusal};
 
-fn of_submit(state: &CoreState, request: Number, batch: Batch) -> Decision
-    ensures { IsDecisionOn state.now (Input.Submit request batch) result }
+// What a batch is among those of its client.
+#[derive(Clone, Copy)]
+pub(crate) enum RequestOrder {
+    // it bears no mark, or its request is greater than the client's last one
+    Next,
+    // its request is the client's last one, that of the batch of this number
+    Again(Number),
+    // its request is less than the client's last one
+    Old,
+}
+
+// What the batch is where this mark is held for its client.
+fn order_of(batch: &Batch, held: Option<HeldMark>) -> RequestOrder
+    ensures { result ≡ request_order (mark_of batch.now) held }
+{
+    let (Some(mark), Some(held)) = (batch.mark(), held) else {
+        return RequestOrder::Next;
+    };
+    if held.request < mark.request {
+        return RequestOrder::Next;
+    }
+    if held.request == mark.request {
+        return RequestOrder::Again(held.number);
+    }
+    RequestOrder::Old
+}
+
+// The rule for a batch, where this mark is held for its client.
+fn of_submit(state: &CoreState, request: Number, batch: Batch, held: Option<HeldMark>) -> Decision
+    ensures decides { DecidesFor state.now held (Input.Submit request batch) result }
+    ensures room { FitsFor state.now held result }
 {
     if state.is_removed() {
         let refusal = Refusal::Removed;
@@ -18,6 +50,14 @@ fn of_submit(state: &CoreState, request: Number, batch: Batch) -> Decision
     if !state.is_head() {
         let refusal = Refusal::NotHead;
         return Decision::Refuse { request, refusal };
+    }
+    match order_of(&batch, held) {
+        RequestOrder::Old => {
+            let refusal = Refusal::OldRequest;
+            return Decision::Refuse { request, refusal };
+        }
+        RequestOrder::Again(number) => return Decision::Repeat { request, number },
+        RequestOrder::Next => {}
     }
     if state.count().get() == MAX_NUMBER {
         let refusal = Refusal::Exhausted;
@@ -157,13 +197,15 @@ fn of_tick(state: &CoreState) -> Decision
     Decision::Resend
 }
 
-/// Decides what a node does with an input. It changes nothing.
+/// Decides what a node does with an input. It changes nothing. `held` is the mark that the node's
+/// list holds for the client of a marked batch that is submitted.
 #[inline(always)]
-pub fn decide(state: &CoreState, input: Input) -> Decision
-    ensures { IsDecisionOn state.now input result }
+pub fn decide(state: &CoreState, input: Input, held: Option<HeldMark>) -> Decision
+    ensures decides { DecidesFor state.now held input result }
+    ensures room { FitsFor state.now held result }
 {
     match input {
-        Input::Submit { request, batch } => of_submit(state, request, batch),
+        Input::Submit { request, batch } => of_submit(state, request, batch, held),
         Input::Get { request, key, at } => of_get(state, request, key, at),
         Input::Rows { request, range, at } => of_rows(state, request, range, at),
         Input::Open { request, at } => of_open(state, request, at),

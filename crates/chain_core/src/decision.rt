@@ -12,6 +12,11 @@ pub enum Decision {
         request: Number,
         batch: Batch,
     },
+    /// The head has a batch with this mark, at this number, and acknowledges that once committed.
+    Repeat {
+        request: Number,
+        number: Number,
+    },
     /// The node appends and forwards the next batch; a tail commits it and acknowledges it.
     Append {
         batch: Batch,

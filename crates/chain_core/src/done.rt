@@ -8,6 +8,8 @@ use kv_types::Number;
 pub enum Done {
     /// A batch of this request was appended.
     Accepted { request: Number },
+    /// This request submits the mark of the batch of this number again.
+    Repeated { request: Number, number: Number },
     /// The predecessor's batch was appended.
     Appended,
     /// The successor reported these numbers.

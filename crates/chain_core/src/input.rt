@@ -1,4 +1,7 @@
 // The inputs of a node: requests of clients, frames of neighbours, notices, ticks.
+ghost use Rattle.std.specs.Prelude.{◌≡◌};
+ghost use Rattle.chain_core.specs.Marks.{client_of};
+
 use configurations::{Config, Epoch, NodeId};
 use kv_types::{Batch, Key, Number};
 use link_messages::BoxedRange;
@@ -53,4 +56,17 @@ pub enum Input {
     },
     /// A turn to send again.
     Tick,
+}
+
+impl Input {
+    /// The client of the mark of the submitted batch, if there is one.
+    pub fn client(&self) -> Option<u64>
+        ensures { result ≡ client_of self.now }
+    {
+        let Input::Submit { batch, .. } = self else {
+            return None;
+        };
+        let mark = batch.mark()?;
+        Some(mark.client)
+    }
 }

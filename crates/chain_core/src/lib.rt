@@ -9,6 +9,7 @@ mod input;
 pub mod laws;
 mod pending_submit;
 mod persistent_state;
+mod places;
 mod queue;
 mod sending;
 mod sent_frames;

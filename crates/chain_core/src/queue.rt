@@ -1,6 +1,8 @@
-// The queue of requests whose batches are not yet committed, in order of number.
+// The queue of requests whose batches are not yet committed, in order of number, then of request.
 ghost use Rattle.std.specs.Prelude.{◌≡◌, [], IfOk, if◌then◌else◌};
-ghost use Rattle.chain_core.specs.Queues.{front, behind};
+ghost use Rattle.chain_core.specs.Queues.{front, behind, place_behind};
+ghost use Rattle.chain_core.specs.States.{asked};
+ghost use Rattle.chain_model.specs.Rules.{is_prior};
 
 use crate::{PendingSubmit, ShortList};
 use kv_types::Number;
@@ -63,4 +65,30 @@ pub(crate) fn forget_due(pending: &mut VecDeque<PendingSubmit>, upto: Number)
         }
         pending.pop_front();
     }
+}
+
+// Whether a request is prior to another one: it has the lesser number, or the same and no greater
+// request.
+fn is_prior(a: &PendingSubmit, b: &PendingSubmit) -> bool
+    ensures { result ≡ is_prior (asked a.now) (asked b.now) }
+{
+    if a.number == b.number {
+        a.request <= b.request
+    } else {
+        a.number < b.number
+    }
+}
+
+// How many requests at the front are prior to this one.
+pub(crate) fn place_behind(pending: &VecDeque<PendingSubmit>, it: &PendingSubmit) -> usize
+    ensures { result ≡ place_behind it.now pending.now.items }
+{
+    let mut count = 0;
+    while let Some(other) = pending.get(count) {
+        if !is_prior(other, it) {
+            return count;
+        }
+        count += 1;
+    }
+    count
 }

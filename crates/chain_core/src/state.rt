@@ -1,7 +1,6 @@
 // The state of a node besides its batches, and the change of it by each step.
 ghost use Rattle.std.specs.Prelude.{◌≡◌, ◌==◌, ◌<◌, ◌≤◌, ◌∷◌, suc, length, max, not, true};
 ghost use Rattle.std.specs.Prelude.{if◌then◌else◌, IsTrue, OnErr, OnOk};
-ghost use Rattle.std.specs.List.{position_from};
 ghost use Rattle.kv_types.specs.declared.bounds.TheConstants.{MAX_NUMBER};
 ghost use Rattle.kv_types.specs.{BatchContent, has};
 ghost use Rattle.configurations.specs.{is_head, is_tail, predecessor, successor};
@@ -14,7 +13,8 @@ ghost use Rattle.chain_core.specs.States.{IsAtStart, HasOrderedNumbers, IsStartO
 ghost use Rattle.chain_core.specs.Decisions.{CoreApplies, DoneFits, HasRoomAt, IsReport};
 ghost use Rattle.chain_core.specs.Decisions.{IsRiseOf};
 
-use crate::queue::{due_of, due_where, forget_due, forget_where};
+use crate::places::{greater, is_head, is_tail, place_of};
+use crate::queue::{due_of, due_where, forget_due, forget_where, place_behind};
 use crate::{CoreError, Done, PendingSubmit, PersistentState, ShortList};
 use configurations::{Config, Epoch, NodeId};
 use kv_types::Number;
@@ -51,31 +51,6 @@ impl Model for CoreState {
     ghost view = { core_value };
 
     ghost invariant = { λ state. HasOrderedNumbers (core_value state) };
-}
-
-fn is_head(config: &Config, id: NodeId) -> bool
-    ensures { result ≡ is_head config.now id }
-{
-    config.head() == id
-}
-
-fn is_tail(config: &Config, id: NodeId) -> bool
-    ensures { result ≡ is_tail config.now id }
-{
-    config.tail() == id
-}
-
-// The place of the newest snapshot at this number.
-fn place_of(snapshots: &VecDeque<Number>, number: Number) -> Option<usize>
-    ensures { result ≡ position_from (λ s. number == s) 0 snapshots.now.items }
-{
-    snapshots.iter().position(|open| number == *open)
-}
-
-fn greater(a: Number, b: Number) -> Number
-    ensures { result ≡ max a b }
-{
-    if a < b { b } else { a }
 }
 
 impl CoreState {
@@ -270,6 +245,26 @@ impl CoreState {
         Ok(due)
     }
 
+    // A request submits again the batch of a number: its acknowledgement is due, or pends in its
+    // place.
+    fn repeat(
+        &mut self,
+        alloc: Global,
+        request: Number,
+        number: Number,
+    ) -> Result<ShortList<PendingSubmit>, CoreError>
+        requires { number ≤ self.old.count }
+        ensures { CoreApplies self.old self.new (Done.Repeated request number) result }
+    {
+        let asked = PendingSubmit { number, request };
+        if number <= self.committed {
+            return Ok(ShortList::one(asked));
+        }
+        let place = place_behind(&self.pending, &asked);
+        self.pending.insert(place, asked)?;
+        Ok(ShortList::new())
+    }
+
     // Adds a batch of the predecessor. A tail commits it.
     fn add_batch(&mut self)
         requires { self.old.count < MAX_NUMBER }
@@ -369,7 +364,7 @@ impl CoreState {
     }
 
     /// Applies the store's part of a step to the state. Returns the requests whose batches are now
-    /// committed, in order of number.
+    /// committed, in order of number, then of request.
     #[inline(always)]
     pub fn after(
         &mut self,
@@ -381,6 +376,7 @@ impl CoreState {
     {
         match done {
             Done::Accepted { request } => self.add_submit(alloc, request),
+            Done::Repeated { request, number } => self.repeat(alloc, request, number),
             Done::Appended => {
                 self.add_batch();
                 Ok(ShortList::new())

@@ -1,33 +1,45 @@
 -- A batch that is appended, and what a tail commits, keep the invariant.
-use Rattle.std.proofs.Common.{◌<◌, ◌≡◌, ◌⊎◌, ⊎_elim, ℕ, suc, ◌≤◌, List, [], ◌∷◌, ◌++◌, length}
-use Rattle.std.proofs.Common.{Some, true, false, cond, sym, refl, ◌∙◌, subst, arith, take_all}
-use Rattle.std.proofs.Common.{length-append}
+use Rattle.std.proofs.Common.{◌≡◌, ◌⊎◌, inl, inr, ⊎_elim, nat_le, leb-true, ℕ, zero, suc, ◌≤◌}
+use Rattle.std.proofs.Common.{List, [], ◌∷◌, ◌++◌, length, Some, true, false, cond, sym, refl}
+use Rattle.std.proofs.Common.{◌∙◌, subst, arith, take_all, length-append}
 use Rattle.std.specs.List.{AllByRecursion}
+use Rattle.std.specs.Prelude.{IsTrue}
 use Rattle.std.proofs.lemmas.Bool.{cond_both, false≢true}
-use Rattle.kv_types.specs.{IsPrefix, Part, place, has}
+use Rattle.kv_types.specs.{IsPrefix, Marked, Part, has, place}
 use Rattle.configurations.specs.{at_epoch, is_head, is_tail, predecessor, successor}
 use Rattle.configurations.specs.NodeLists.{IsBeforeIn}
-use Rattle.chain_model.specs.Machine.{Answer, MachineState}
-use Rattle.chain_model.specs.Rules.{accept, ack, append, forward, longer_for, submit}
+use Rattle.chain_model.specs.Machine.{Answer, MachineState, replied, silent}
+use Rattle.chain_model.specs.Rules.{accept, ack, append, forward, is_prior, longer_for}
+use Rattle.chain_model.specs.Rules.{queued, repeat, submit}
 use Rattle.chain_model.specs.Rules.{tail_commits, receive_forward}
 use Rattle.chain_model.specs.System.{SystemEvent}
 use Rattle.chain_model.specs.Order.{WasCommitted}
-use Rattle.chain_model.specs.Retention.{RisesFrom}
+use Rattle.chain_model.specs.Retention.{AreInTurnFrom}
+use Rattle.chain_model.specs.RulesLemmas.{prior_below, prior_least, prior_other}
 use Rattle.kv_types.specs.ListsLemmas.{begins_more, begins_next, begins_refl, every_append}
-use Rattle.kv_types.specs.ListsLemmas.{every_map, part_begins, part_trans, place-bounds, place_in}
+use Rattle.kv_types.specs.ListsLemmas.{every_map, none_at_zero, place-bounds, place_in}
 use Rattle.kv_types.specs.ListsLemmas.{place_last, take_of_begins}
 use Rattle.chain_model.proofs.Configuration.{IsChain, before_left, before_predecessor}
 use Rattle.chain_model.proofs.Configuration.{before_tail, none_before_head, none_before_itself}
 use Rattle.chain_model.proofs.Configuration.{predecessor_before, tail_has}
-use Rattle.chain_model.proofs.Submitted.{WasHandedIn}
+use Rattle.chain_model.proofs.Submitted.{AreAnswers, WasHandedIn, among_place}
+use Rattle.chain_model.specs.Requests.{Committed}
+use Rattle.kv_types.specs.MarksLemmas.{held_is}
+use Rattle.chain_model.proofs.Marks.{IsNext, Taken, rises_next, taken_begins}
 use Rattle.chain_model.proofs.Invariant.{FrameOk, IsPending, NodeOk, Sound, SoundNode}
 use Rattle.chain_model.proofs.Cases.{submit_cases, take_forward_cases}
 use Rattle.chain_model.proofs.Sends.{AnswerOk, Lands, ack_ok, acknowledge_ok, before_first}
+use Rattle.chain_model.proofs.Sends.{committed_ok}
 use Rattle.chain_model.proofs.Sends.{before_known, different, forward_ok, refused_ok}
+
+-- places are counted from 1
+place_from_one : {X : Type 0} (l : List X) (k : ℕ) (x : X) → place l k ≡ Some x → 1 ≤ k
+place_from_one l zero x at = absurd (none_at_zero l x at)
+place_from_one l (suc k) x at = omega arith
 
 -- `lists` are the lists of all nodes after the step.
 module _ {A : Type 0} (cs : List (List ℕ)) (lawful : IsChain cs) (events : List (SystemEvent A))
-    (h : List A) (lists : ℕ → List A) (x : ℕ) where
+    (h : List (Marked A)) (lists : ℕ → List (Marked A)) (x : ℕ) where
   -- a tail may commit its full list
   pub tail_sound : (n : MachineState A) → Lands cs events lists x n → is_tail n.ids x ≡ true
       → SoundNode cs events h lists x n → Sound cs events h lists x n.list n.epoch n.ids
@@ -70,7 +82,7 @@ module _ {A : Type 0} (cs : List (List ℕ)) (lawful : IsChain cs) (events : Lis
   pub tail_ok : (n : MachineState A) → Lands cs events lists x n → SoundNode cs events h lists x n
       → AllByRecursion (IsPending events n.list) n.pending
       → AllByRecursion (λ s. n.floor ≤ s) n.snapshots
-      → RisesFrom 0 n.pending
+      → AreInTurnFrom (1, 0) n.pending
       → (n.running ≡ true → is_tail n.ids x ≡ false → n.committed ≤ n.successor_has)
       → NodeOk cs events h lists x (tail_commits x n)
   tail_ok n here s pending snapshots rising resend =
@@ -94,10 +106,11 @@ module _ {A : Type 0} (cs : List (List ℕ)) (lawful : IsChain cs) (events : Lis
       })
 
   -- one more batch, which is next in the list of every node before
-  pub append_sound : (n : MachineState A) (b : A) → SoundNode cs events h lists x n → has n.ids x ≡
+  pub append_sound : (n : MachineState A) (b : Marked A) → SoundNode cs events h lists x n
+      → has n.ids x ≡
       true
       → ((z : ℕ) → IsBeforeIn n.ids z x → place (lists z) (suc (length n.list)) ≡ Some b)
-      → Part (n.list ++ b ∷ []) h → Sound cs events h lists x (n.list ++ b ∷ []) n.epoch n.ids
+      → Taken (n.list ++ b ∷ []) h → Sound cs events h lists x (n.list ++ b ∷ []) n.epoch n.ids
       n.committed n.floor n.kept
   append_sound n b s has_x next part = record {
     in_range = s.in_range;
@@ -124,25 +137,26 @@ module _ {A : Type 0} (cs : List (List ℕ)) (lawful : IsChain cs) (events : Lis
   }
 
   -- a request pending for a list is pending for a longer one
-  pub pending_longer : (l : List A) (b : A) (ps : List (ℕ × ℕ))
+  pub pending_longer : (l : List (Marked A)) (b : Marked A) (ps : List (ℕ × ℕ))
       → AllByRecursion (IsPending events l) ps → AllByRecursion (IsPending events (l ++ b ∷ [])) ps
   pending_longer l b ps pending = every_map (IsPending events l) (IsPending events (l ++ b ∷ []))
       ps (λ p is. (is.0, (is.1.0, place_in l (b ∷ []) p.0 is.0 is.1.1))) pending
 
-  -- a number above those that rise may follow them
-  rises_append : (j k i : ℕ) (ps : List (ℕ × ℕ)) → j < k → RisesFrom j ps
-      → AllByRecursion (λ (p : ℕ × ℕ). p.0 < k) ps → RisesFrom j (ps ++ (k, i) ∷ [])
-  rises_append j k i [] lt up each = (lt, tt)
-  rises_append j k i (p ∷ ps) lt up each =
-      (up.0, rises_append p.0 k i ps each.0 up.1 each.1)
+  -- a request that all go before may follow them
+  rises_append : (p q : ℕ × ℕ) (ps : List (ℕ × ℕ)) → IsTrue (is_prior p q) → AreInTurnFrom p ps
+      → AllByRecursion (λ (r : ℕ × ℕ). IsTrue (is_prior r q)) ps → AreInTurnFrom p (ps ++ q ∷ [])
+  rises_append p q [] le up each = (le, tt)
+  rises_append p q (r ∷ ps) le up each = (up.0, rises_append r q ps each.0 up.1 each.1)
 
   -- a request that waits for the next number waits last
-  rises_next : (n : MachineState A) (i : ℕ) → NodeOk cs events h lists x n
-      → RisesFrom 0 (n.pending ++ (suc (length n.list), i) ∷ [])
-  rises_next n i ok =
-      rises_append 0 (suc (length n.list)) i n.pending (omega arith) ok.rising
-      (every_map (IsPending events n.list) (λ (p : ℕ × ℕ). p.0 < suc (length n.list)) n.pending
-      (λ p is. omega (arith, place-bounds n.list p.0 is.0 is.1.1)) ok.pending)
+  last_rises : (n : MachineState A) (i : ℕ) → NodeOk cs events h lists x n
+      → AreInTurnFrom (1, 0) (n.pending ++ (suc (length n.list), i) ∷ [])
+  last_rises n i ok =
+      let last : ℕ × ℕ = (suc (length n.list), i) in
+      rises_append (1, 0) last n.pending (prior_least last (omega arith)) ok.rising
+      (every_map (IsPending events n.list) (λ (p : ℕ × ℕ). IsTrue (is_prior p last)) n.pending
+      (λ p is. prior_below p last.0 i (omega (arith, place-bounds n.list p.0 is.0 is.1.1)))
+      ok.pending)
 
   -- the requirement on an answer, once the node's new list is known
   abbrev pub Keeps : Answer A → Type 0
@@ -156,10 +170,12 @@ module _ {A : Type 0} (cs : List (List ℕ)) (lawful : IsChain cs) (events : Lis
       refl refl
 
   -- the head accepts a batch
-  accept_ok : (n : MachineState A) (i : ℕ) (b : A) → NodeOk cs events h lists x n
+  accept_ok : (n : MachineState A) (i : ℕ) (b : Marked A) → NodeOk cs events h lists x n
       → WasHandedIn events i b → Part (n.list ++ b ∷ []) h → is_head n.ids x ≡ true
-      → has n.ids x ≡ true → Keeps (accept x n i b)
-  accept_ok n i b ok brought part head kept at =
+      → has n.ids x ≡ true → IsNext n.list b.mark → Keeps (accept x n i b)
+  accept_ok n i b ok brought part head kept next at =
+      let taken : Taken (n.list ++ b ∷ []) h =
+      record { part = part; rises = rises_next n.list b ok.sound.handed.rises next } in
       let more = longer_for n i b in
       let m = tail_commits x more in
       let size = suc (length n.list) in
@@ -169,26 +185,84 @@ module _ {A : Type 0} (cs : List (List ℕ)) (lawful : IsChain cs) (events : Lis
       before) in
       let waits : AllByRecursion (IsPending events more.list) more.pending =
       every_append (IsPending events more.list) n.pending ((size, i) ∷ [])
-      (pending_longer n.list b n.pending ok.pending) ((b, (brought, place_last n.list b)), tt) in
+      (pending_longer n.list b n.pending ok.pending)
+      ((b, (inl brought, place_last n.list b)), tt) in
       let ok' : NodeOk cs events h lists x m =
       tail_ok more (lands_tail more (record { list = at.list; tail = at.tail }))
-      (append_sound n b ok.sound kept first part) waits ok.snapshots (rises_next n i ok)
+      (append_sound n b ok.sound kept first taken) waits ok.snapshots (last_rises n i ok)
       ok.resend in
       acknowledge_ok cs lawful events h lists x m (forward x m size) ok'
       (passed_on m ok' at.list size)
 
+  -- one more pending request, in its place
+  pending_queued : (l : List (Marked A)) (p : ℕ × ℕ) (ps : List (ℕ × ℕ)) → IsPending events l p
+      → AllByRecursion (IsPending events l) ps → AllByRecursion (IsPending events l) (queued p ps)
+  pending_queued l p [] is pending = (is, tt)
+  pending_queued l p (q ∷ ps) is pending =
+      cond_both (is_prior q p) (q ∷ queued p ps) (p ∷ q ∷ ps)
+      (AllByRecursion (IsPending events l))
+      (λ behind. (pending.0, pending_queued l p ps is pending.1)) (λ before. (is, pending))
+
+  -- .. keeps them in order
+  rises_queued : (o p : ℕ × ℕ) (ps : List (ℕ × ℕ)) → IsTrue (is_prior o p) → AreInTurnFrom o ps
+      → AreInTurnFrom o (queued p ps)
+  rises_queued o p [] le up = (le, tt)
+  rises_queued o p (q ∷ ps) le up =
+      cond_both (is_prior q p) (q ∷ queued p ps) (p ∷ q ∷ ps) (AreInTurnFrom o)
+      (λ is. (up.0, rises_queued q p ps is up.1))
+      (λ not. (le, (prior_other q p not, up.1)))
+
+  -- a request that submits again the batch at a place of the list
+  repeat_ok : (n : MachineState A) (i k : ℕ) → NodeOk cs events h lists x n
+      → IsPending events n.list (k, i) → Keeps (repeat n i k)
+  repeat_ok n i k ok is at =
+      cond_both (nat_le k n.committed) (replied n (Committed i k))
+      (silent (record n { pending = queued (k, i) n.pending })) (AnswerOk cs events h lists x)
+      (λ le. record {
+        node = ok;
+        frames = tt;
+        replies = (
+          committed_ok cs lawful events h lists x n ok.sound (k, i)
+              (leb-true k n.committed le) is,
+          tt,
+        );
+      })
+      (λ gt. record {
+        node = record {
+          sound = ok.sound;
+          pending = pending_queued n.list (k, i) n.pending is ok.pending;
+          tail = ok.tail;
+          snapshots = ok.snapshots;
+          rising = rises_queued (1, 0) (k, i) n.pending
+              (prior_least (k, i) (place_from_one n.list k is.0 is.1.1)) ok.rising;
+          resend = ok.resend;
+        };
+        frames = tt;
+        replies = tt;
+      })
+
   -- a batch that is submitted
-  pub submit_ok : (n : MachineState A) (i : ℕ) (b : A) → NodeOk cs events h lists x n
-      → WasHandedIn events i b → Part (n.list ++ b ∷ []) h → Keeps (submit x n i b)
-  submit_ok n i b ok brought part =
+  pub submit_ok : (n : MachineState A) (i : ℕ) (b : Marked A) → NodeOk cs events h lists x n
+      → WasHandedIn events i b → Part (n.list ++ b ∷ []) h → AreAnswers events n.list i b
+      → Keeps (submit x n i b)
+  submit_ok n i b ok brought part again =
       submit_cases Keeps x n i b (λ why at. refused_ok cs lawful events h lists x n i ok why)
-      (λ kept head. accept_ok n i b ok brought part head kept)
+      (λ kept head next. accept_ok n i b ok brought part head kept next)
+      (λ k m is held.
+      let one = held_is n.list m.client (m.request, k) held in
+      repeat_ok n i k ok (
+        one.0,
+        (
+          inr (again one.0 m (among_place one.0 n.list k one.1.0) one.1.1 is),
+          one.1.0,
+        ),
+      ))
 
   -- the next batch of p, and of all before p, is the next batch of all before this node
-  append_ok : (n : MachineState A) (k : ℕ) (b : A) (p : ℕ) → NodeOk cs events h lists x n
+  append_ok : (n : MachineState A) (k : ℕ) (b : Marked A) (p : ℕ) → NodeOk cs events h lists x n
       → has n.ids x ≡ true → predecessor n.ids x ≡ Some p
       → ((z : ℕ) → ((z ≡ p) ⊎ IsBeforeIn n.ids z p) → place (lists z) k ≡ Some b)
-      → ((p ≡ x → ⊥) → Part (lists p) h) → k ≡ suc (length n.list) → Keeps (append x n k b)
+      → ((p ≡ x → ⊥) → Taken (lists p) h) → k ≡ suc (length n.list) → Keeps (append x n k b)
   append_ok n k b p ok has_x is_pred tells part number at =
       let more : MachineState A = record n { list = n.list ++ b ∷ [] } in
       let m = tail_commits x more in
@@ -204,8 +278,8 @@ module _ {A : Type 0} (cs : List (List ℕ)) (lawful : IsChain cs) (events : Lis
       let begins : IsPrefix (n.list ++ b ∷ []) (lists p) =
       begins_next b (ok.sound.behind p before_0 (before_left n.ids p x before_p))
       (next p before_p) in
-      let handed : Part (n.list ++ b ∷ []) h =
-      part_trans (n.list ++ b ∷ []) (lists p) h (part_begins begins) (part other) in
+      let handed : Taken (n.list ++ b ∷ []) h =
+      taken_begins (n.list ++ b ∷ []) (lists p) h begins (part other) in
       let ok' : NodeOk cs events h lists x m =
       tail_ok more (lands_tail more (record { list = at.list; tail = at.tail }))
       (append_sound n b ok.sound has_x next handed)
@@ -221,10 +295,11 @@ module _ {A : Type 0} (cs : List (List ℕ)) (lawful : IsChain cs) (events : Lis
       }
 
   -- a batch that the predecessor forwards
-  pub take_forward_ok : (n : MachineState A) (k : ℕ) (b : A) (p : ℕ) → NodeOk cs events h lists x n
+  pub take_forward_ok : (n : MachineState A) (k : ℕ) (b : Marked A) (p : ℕ)
+      → NodeOk cs events h lists x n
       → has n.ids x ≡ true → predecessor n.ids x ≡ Some p
       → ((z : ℕ) → ((z ≡ p) ⊎ IsBeforeIn n.ids z p) → place (lists z) k ≡ Some b)
-      → ((p ≡ x → ⊥) → Part (lists p) h) → Keeps (receive_forward x n k b)
+      → ((p ≡ x → ⊥) → Taken (lists p) h) → Keeps (receive_forward x n k b)
   take_forward_ok n k b p ok has_x is_pred tells part =
       take_forward_cases Keeps x n k b (append_ok n k b p ok has_x is_pred tells part)
       (λ at. record {

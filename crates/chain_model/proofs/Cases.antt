@@ -1,11 +1,12 @@
 -- What a rule answers, by the tests that it makes: what holds of each answer holds of the rule's.
 use Rattle.std.proofs.Common.{◌≡◌, ℕ, suc, ◌-◌, ◌^◌, ◌<◌, ◌≤◌, List, length, Option, Some, None}
 use Rattle.std.proofs.Common.{Bool, true, false, cond, not, ◌==◌, ◌&&◌, nat_le, nat_lt, ap}
-use Rattle.std.proofs.Common.{eqb-true, leb-true, ltb-true, ltb-false}
+use Rattle.std.proofs.Common.{eqb-true, leb-true, ltb-true, ltb-false, refl, sym, subst, ◌∙◌}
 use Rattle.std.proofs.lemmas.Bool.{cond_both, false≢true, and_parts, not-false}
+use Rattle.kv_types.specs.declared.mark.Mark.{Mark}
 use Rattle.configurations.specs.{is_head, predecessor, successor}
 use Rattle.configurations.specs.NodeLists.{leaves_out}
-use Rattle.kv_types.specs.{has}
+use Rattle.kv_types.specs.{Marked, has, mark_held}
 use Rattle.chain_model.specs.declared.refusal.Refusal.TheVariants as refusal
 use Rattle.chain_model.specs.declared.refusal.Refusal.{Refusal}
 use Rattle.chain_model.specs.declared.drop_reason.DropReason.TheVariants as reason
@@ -13,11 +14,13 @@ use Rattle.chain_model.specs.declared.drop_reason.DropReason.{DropReason}
 use Rattle.chain_model.specs.Messages.{Ack, Forward}
 use Rattle.kv_types.specs.Snapshots.{is_open}
 use Rattle.chain_model.specs.Machine.{Answer, MachineState, dropped_for, refused}
-use Rattle.chain_model.specs.Rules.{accept, adopt, append, remove_snapshot, close_snapshot}
+use Rattle.chain_model.specs.Rules.{accept, accept_if_room, adopt, append, repeat, submit_after}
+use Rattle.chain_model.specs.Rules.{remove_snapshot, close_snapshot, submit_marked}
 use Rattle.chain_model.specs.Rules.{if_readable}
 use Rattle.chain_model.specs.Rules.{is_some_of, notice, number_read, add_snapshot, open_snapshot}
 use Rattle.chain_model.specs.Rules.{on_ack, read, receive, resend, reply_read, submit, receive_ack}
 use Rattle.chain_model.specs.Rules.{receive_forward, ack_duplicate, tick}
+use Rattle.chain_model.proofs.Marks.{IsNext}
 
 -- the test finds the node that it is asked for
 is_some : (o : Option ℕ) (p : ℕ) → is_some_of o p ≡ true → o ≡ Some p
@@ -32,24 +35,59 @@ module _ {A : Type 0} (P : Answer A → Type 0) where
       cond_both s a (cond t b c) P (λ _. pa)
       (λ no. cond_both t b c P (λ yes. pb no yes) (λ _. pc))
 
-  -- a submit is refused, or the head accepts the batch
-  pub submit_cases : (x : ℕ) (n : MachineState A) (i : ℕ) (b : A) →
+  -- of a batch that the head receives, by the mark that the batch bears: it is refused, or the head
+  -- accepts it as the client's next one, or holds its mark at number k
+  marked_cases : (x : ℕ) (n : MachineState A) (i : ℕ) (b : Marked A) →
+      ((why : Refusal) → P (refused n i why)) → (IsNext n.list b.mark → P (accept x n i b))
+      → ((k : ℕ) (m : Mark) → b.mark ≡ Some m → mark_held n.list m.client ≡ Some (m.request, k)
+      → P (repeat n i k)) → (o : Option Mark) → b.mark ≡ o → P (submit_marked x n i b o)
+  marked_cases x n i b refuse take again o is = by o is
+    where
+      room : IsNext n.list b.mark → P (accept_if_room x n i b)
+      room next =
+          let full = length n.list == 2 ^ 63 - 1 in
+          cond_both full (refused n i refusal.Exhausted) (accept x n i b) P
+          (λ full. refuse refusal.Exhausted) (λ room. take next)
+
+      after : (m : Mark) → b.mark ≡ Some m → (h : Option (ℕ × ℕ)) → mark_held n.list m.client ≡ h
+          → P (submit_after x n i b m.request h)
+      after m is None held =
+          room (subst (IsNext n.list) (sym is) (λ g it. absurd (cc)))
+      after m is (Some h) held =
+          let next = accept_if_room x n i b in
+          let old = refused n i refusal.OldRequest in
+          let other = cond (h.0 == m.request) (repeat n i h.1) old in
+          cond_both (nat_lt h.0 m.request) next other P
+          (λ less. room (subst (IsNext n.list) (sym is) (λ g it.
+          let same : h ≡ g = cc (held, it) in
+          subst (λ (q : ℕ × ℕ). q.0 < m.request) same (ltb-true h.0 m.request less))))
+          (λ more. cond_both (h.0 == m.request) (repeat n i h.1) old P
+          (λ same. again h.1 m is
+          (held ∙ (λ j. Some (eqb-true h.0 m.request same j, h.1))))
+          (λ less. refuse refusal.OldRequest))
+
+      by : (o : Option Mark) → b.mark ≡ o → P (submit_marked x n i b o)
+      by None is = room (subst (IsNext n.list) (sym is) tt)
+      by (Some m) is = after m is (mark_held n.list m.client) refl
+
+  -- a submit is refused, or the head accepts the batch, or has it already, at number k
+  pub submit_cases : (x : ℕ) (n : MachineState A) (i : ℕ) (b : Marked A) →
       ((why : Refusal) → P (refused n i why))
-      → (has n.ids x ≡ true → is_head n.ids x ≡ true → P (accept x n i b)) → P (submit x n i b)
-  submit_cases x n i b refuse take =
-      let full = length n.list == 2 ^ 63 - 1 in
-      let at_head = cond full (refused n i refusal.Exhausted) (accept x n i b) in
+      → (has n.ids x ≡ true → is_head n.ids x ≡ true → IsNext n.list b.mark → P (accept x n i b))
+      → ((k : ℕ) (m : Mark) → b.mark ≡ Some m → mark_held n.list m.client ≡ Some (m.request, k)
+      → P (repeat n i k)) → P (submit x n i b)
+  submit_cases x n i b refuse take again =
+      let at_head = submit_marked x n i b b.mark in
       let here = cond (not (is_head n.ids x)) (refused n i refusal.NotHead) at_head in
       cond_both (not (has n.ids x)) (refused n i refusal.Removed) here P
       (λ gone. refuse refusal.Removed)
       (λ kept. cond_both (not (is_head n.ids x)) (refused n i refusal.NotHead) at_head P
       (λ other. refuse refusal.NotHead)
-      (λ head. cond_both full (refused n i refusal.Exhausted) (accept x n i b) P
-      (λ full. refuse refusal.Exhausted)
-      (λ room. take (not-false (has n.ids x) kept) (not-false (is_head n.ids x) head))))
+      (λ head. marked_cases x n i b refuse
+      (take (not-false (has n.ids x) kept) (not-false (is_head n.ids x) head)) again b.mark refl))
 
   -- the batch is the next one, or another
-  pub take_forward_cases : (x : ℕ) (n : MachineState A) (k : ℕ) (b : A)
+  pub take_forward_cases : (x : ℕ) (n : MachineState A) (k : ℕ) (b : Marked A)
       → (k ≡ suc (length n.list) → P (append x n k b)) → P (ack_duplicate x n)
       → P (receive_forward x n k b)
   take_forward_cases x n k b next other =
@@ -86,7 +124,7 @@ module _ {A : Type 0} (P : Answer A → Type 0) where
       (drops why))
 
   -- a Forward is dropped, or its sender is the predecessor
-  pub forward_cases : (x : ℕ) (n : MachineState A) (to e from k : ℕ) (b : A)
+  pub forward_cases : (x : ℕ) (n : MachineState A) (to e from k : ℕ) (b : Marked A)
       → ((why : DropReason) → P (dropped_for n why))
       → (has n.ids x ≡ true → e ≡ n.epoch → predecessor n.ids x ≡ Some from
       → P (receive_forward x n k b)) → P (receive x n (Forward to e from k b))

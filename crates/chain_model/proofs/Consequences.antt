@@ -4,7 +4,7 @@ use Rattle.std.proofs.Common.{take, ap₂, refl, None, true, not, nat_le, nat_lt
 use Rattle.std.proofs.Common.{subst, arith, take_all, length-take-le, le-leb, le-ltb}
 use Rattle.std.proofs.lemmas.Bool.{cond-true, cond-false, not_from_true}
 use Rattle.std.proofs.lemmas.List.Elements.{All-from_recursion}
-use Rattle.kv_types.specs.{IsPrefix, Part, has}
+use Rattle.kv_types.specs.{IsPrefix, Marked, Part, has}
 use Rattle.configurations.specs.{at_epoch, is_tail, last_of}
 use Rattle.configurations.specs.NodeLists.{IsBeforeIn, leaves_out}
 use Rattle.chain_model.specs.declared.refusal.Refusal.TheVariants as refusal
@@ -61,28 +61,31 @@ handed_batches i (Stop x ∷ es) = handed_batches (suc i) es
 handed_batches i (Lost ∷ es) = handed_batches (suc i) es
 
 -- a sublist of the batches is the image of a sublist of the batches with places
-taken_of : {A : Type 0} (events : List (SystemEvent A)) (l : List A) → Part l (handed events)
+taken_of : {A : Type 0} (events : List (SystemEvent A)) (l : List (Marked A))
+    → Part l (handed events)
     → IsInSubmittedOrder events l
 taken_of events l part = part_of_map (λ (p : ℕ × _). p.1) l (submitted 1 events)
     (subst (λ m. Part l m) (sym (handed_batches 1 events)) part)
 
 -- a good frame is to a node of its epoch
 is_addressed : {A : Type 0} (cs : List (List ℕ)) (events : List (SystemEvent A))
-    (lists : ℕ → List A)
+    (lists : ℕ → List (Marked A))
     (f : Message A) → FrameOk cs events lists f → has (at_epoch cs (epoch_of f)) (addressee f) ≡
     true
 is_addressed cs events lists (Forward to e from number batch) ok = ok.0
 is_addressed cs events lists (Ack to e from committed have) ok = ok.0
 
 -- a good Forward is true
-tells_true : {A : Type 0} (cs : List (List ℕ)) (events : List (SystemEvent A)) (lists : ℕ → List A)
+tells_true : {A : Type 0} (cs : List (List ℕ)) (events : List (SystemEvent A))
+    (lists : ℕ → List (Marked A))
     (f : Message A) → FrameOk cs events lists f → ForwardIsTrue cs lists f
 tells_true cs events lists (Forward to e from number batch) ok = ok.1
 tells_true cs events lists (Ack to e from committed have) ok = tt
 
 -- a good Ack reports a committed length
 tells_committed : {A : Type 0} (cs : List (List ℕ)) (events : List (SystemEvent A))
-    (lists : ℕ → List A) (f : Message A) → FrameOk cs events lists f → AckIsTrue cs events f
+    (lists : ℕ → List (Marked A)) (f : Message A) → FrameOk cs events lists f
+    → AckIsTrue cs events f
 tells_committed cs events lists (Forward to e from number batch) ok = tt
 tells_committed cs events lists (Ack to e from committed have) ok = (ok.1.0, (ok.1.1.0, ok.1.1.2))
 
@@ -158,7 +161,8 @@ module _ {A : Type 0} (cs : List (List ℕ)) (lawful : IsChain cs) where
         taken = λ x.
             let l = (node_of cs events x).list in
             taken_of events l (part_trans l (accepted cs events (first_state cs)) (handed events)
-            ((holds events).nodes x).sound.handed (accepted_part cs events (first_state cs)));
+            ((holds events).nodes x).sound.handed.part (accepted_part cs events (first_state cs)));
+        marks = λ x. ((holds events).nodes x).sound.handed.rises;
         epochs = λ x. ((holds events).nodes x).sound.in_range;
         configured = known events;
         notices = λ x e later in_range. subst (λ c. leaves_out (at_epoch cs e) c ≡ true)

@@ -1,20 +1,21 @@
 -- What a step makes of what outlives a stop, and of the node that it leaves running.
 use Rattle.std.proofs.Common.{◌<◌, ◌≡◌, ℕ, suc, List, [], ◌∷◌, ◌++◌, length, Bool, true, false}
-use Rattle.std.proofs.Common.{cond, nat_lt, sym, refl, ◌∙◌, subst, arith}
+use Rattle.std.proofs.Common.{cond, nat_le, nat_lt, sym, refl, ◌∙◌, subst, arith}
 use Rattle.std.proofs.lemmas.Bool.{cond_both}
-use Rattle.kv_types.specs.{IsPrefix}
+use Rattle.kv_types.specs.{IsPrefix, Marked}
 use Rattle.configurations.specs.{is_tail}
 use Rattle.chain_model.specs.declared.refusal.Refusal.{Refusal}
 use Rattle.chain_model.specs.declared.drop_reason.DropReason.TheVariants as reason
 use Rattle.chain_model.specs.declared.drop_reason.DropReason.{DropReason}
 use Rattle.chain_model.specs.Messages.{Ack, Forward, Message}
-use Rattle.chain_model.specs.Requests.{Close, Closed, Open, Opened, Read, Response, Request, Submit}
+use Rattle.chain_model.specs.Requests.{Close, Closed, Committed, Open, Opened, Read, Response}
+use Rattle.chain_model.specs.Requests.{Request, Submit}
 use Rattle.chain_model.specs.Machine.{Answer, MachineState, dropped_for, refused, replied, silent}
 use Rattle.kv_types.specs.Snapshots.{without}
 use Rattle.chain_model.specs.Rules.{accept, ack, acknowledge, adopt, append, ask, forward}
 use Rattle.chain_model.specs.Rules.{longer_for, moved, notice, number_read, on_ack, receive}
 use Rattle.chain_model.specs.Rules.{resend, reply_read, tail_commits, receive_ack, ack_duplicate}
-use Rattle.chain_model.specs.Rules.{tend, tick}
+use Rattle.chain_model.specs.Rules.{queued, repeat, tend, tick}
 use Rattle.chain_model.specs.Rules.{acked}
 use Rattle.chain_model.specs.Growth.{StaysRunning, Grows, StepsStayRunning}
 use Rattle.kv_types.specs.ListsLemmas.{begins_more, begins_refl, begins_trans}
@@ -65,7 +66,7 @@ still n a s = record {
 }
 
 -- an answer that appends a batch
-longer : {A : Type 0} (n : MachineState A) (b : A) (m : MachineState A) (a : Answer A)
+longer : {A : Type 0} (n : MachineState A) (b : Marked A) (m : MachineState A) (a : Answer A)
     → m.list ≡ n.list ++ b ∷ [] → Same m a.node → m.epoch ≡ n.epoch → m.floor ≡ n.floor
     → m.kept ≡ n.kept → m.running ≡ n.running → StaysRunning n a
 longer n b m a list s epoch floor kept running = record {
@@ -126,7 +127,7 @@ module _ {A : Type 0} (x : ℕ) where
   refuses n i why = still n (refused n i why) (same_refl n)
 
   -- the head that accepts a batch stays running and grows
-  accept_goes_on : (n : MachineState A) (i : ℕ) (b : A) → StaysRunning n (accept x n i b)
+  accept_goes_on : (n : MachineState A) (i : ℕ) (b : Marked A) → StaysRunning n (accept x n i b)
   accept_goes_on n i b =
       let more = longer_for n i b in
       let m = tail_commits x more in
@@ -134,8 +135,17 @@ module _ {A : Type 0} (x : ℕ) where
       longer n b more (accept x n i b) refl (acknowledged more m fs (tail_same more)) refl refl
       refl refl
 
+  -- a head that has the batch stays running and grows
+  repeat_goes_on : (n : MachineState A) (i k : ℕ) → StaysRunning n (repeat n i k)
+  repeat_goes_on n i k =
+      let waits = silent (record n { pending = queued (k, i) n.pending }) in
+      cond_both (nat_le k n.committed) (replied n (Committed i k)) waits (StaysRunning n)
+      (λ le. still n (replied n (Committed i k)) (same_refl n))
+      (λ gt. still n waits
+      (record { list = refl; epoch = refl; floor = refl; kept = refl; running = refl }))
+
   -- a node that appends a batch stays running and grows
-  append_goes_on : (n : MachineState A) (k : ℕ) (b : A) → StaysRunning n (append x n k b)
+  append_goes_on : (n : MachineState A) (k : ℕ) (b : Marked A) → StaysRunning n (append x n k b)
   append_goes_on n k b =
       let more : MachineState A = record n { list = n.list ++ b ∷ [] } in
       longer n b more (append x n k b) refl (tail_same more) refl refl refl refl
@@ -176,7 +186,8 @@ module _ {A : Type 0} (x : ℕ) where
   -- a node stays running and grows at a request
   pub ask_goes_on : (n : MachineState A) (i : ℕ) (q : Request A) → StaysRunning n (ask x n i q)
   ask_goes_on n i (Submit b) =
-      submit_cases (StaysRunning n) x n i b (refuses n i) (λ here head. accept_goes_on n i b)
+      submit_cases (StaysRunning n) x n i b (refuses n i) (λ here head next. accept_goes_on n i b)
+      (λ k mark bears held. repeat_goes_on n i k)
   ask_goes_on n i (Read at) =
       read_cases (StaysRunning n) x n i at (refuses n i)
       (λ low le. still n (reply_read n i (number_read n at)) (same_refl n))

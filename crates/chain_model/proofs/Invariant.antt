@@ -1,7 +1,7 @@
 -- The invariant of a world after every list of events, which stays true as lists grow.
 use Rattle.std.proofs.Common.{◌≡◌, ℕ, ◌<◌, ◌≤◌, List, ◌++◌, length, take, Some, true, false}
 use Rattle.std.specs.List.{AllByRecursion}
-use Rattle.kv_types.specs.{IsPrefix, Part, place, has}
+use Rattle.kv_types.specs.{IsPrefix, Marked, has, place}
 use Rattle.configurations.specs.{at_epoch, is_tail, last_of}
 use Rattle.configurations.specs.NodeLists.{IsBeforeIn}
 use Rattle.chain_model.specs.Messages.{Ack, Forward, Message}
@@ -9,16 +9,18 @@ use Rattle.chain_model.specs.Requests.{Closed, Committed, Opened, Refused, Respo
 use Rattle.chain_model.specs.Machine.{MachineState}
 use Rattle.chain_model.specs.System.{SystemEvent, SystemState}
 use Rattle.chain_model.specs.Order.{CommittedBy, IsUpTo, WasCommitted}
-use Rattle.chain_model.specs.Retention.{RisesFrom}
-use Rattle.kv_types.specs.ListsLemmas.{begins-place, begins_trans, part_wider}
-use Rattle.chain_model.proofs.Submitted.{WasHandedIn}
+use Rattle.chain_model.specs.Retention.{AreInTurnFrom}
+use Rattle.kv_types.specs.ListsLemmas.{begins-place, begins_trans}
+use Rattle.chain_model.proofs.Marks.{Taken, taken_wider}
+use Rattle.chain_model.proofs.Submitted.{MayAnswer}
 
 -- the list of every node of a configuration begins with this one
-abbrev pub Safe : {A : Type 0} → (ℕ → List A) → List ℕ → List A → Type 0
+abbrev pub Safe : {A : Type 0} → (ℕ → List (Marked A)) → List ℕ → List (Marked A) → Type 0
 Safe lists c l = (y : ℕ) → has c y ≡ true → IsPrefix l (lists y)
 
 -- l is committed by an epoch that is not after e, and that keeps node x if the first one does
-abbrev pub IsKnown : {A : Type 0} → List (List ℕ) → List (SystemEvent A) → (x e : ℕ) → List A → Type
+abbrev pub IsKnown : {A : Type 0} → List (List ℕ) → List (SystemEvent A) → (x e : ℕ)
+    → List (Marked A) → Type
     0
 IsKnown cs events x e l =
     (e' : ℕ) × ((e' ≤ e) × (has (at_epoch cs 0) x ≡ true → has (at_epoch cs e') x ≡ true)
@@ -26,8 +28,9 @@ IsKnown cs events x e l =
 
 -- The invariant of node x with list l at epoch e, where `lists` has the lists of all nodes and h
 -- the submitted batches.
-pub record Sound {A : Type 0} (cs : List (List ℕ)) (events : List (SystemEvent A)) (h : List A)
-    (lists : ℕ → List A) (x : ℕ) (l : List A) (e : ℕ) (c : List ℕ)
+pub record Sound {A : Type 0} (cs : List (List ℕ)) (events : List (SystemEvent A))
+    (h : List (Marked A))
+    (lists : ℕ → List (Marked A)) (x : ℕ) (l : List (Marked A)) (e : ℕ) (c : List ℕ)
     (committed floor kept : ℕ) : Type 0 where
   pub in_range : e < length cs
   pub knows : c ≡ at_epoch cs e
@@ -41,34 +44,38 @@ pub record Sound {A : Type 0} (cs : List (List ℕ)) (events : List (SystemEvent
   pub kept_le : kept ≤ floor
   pub floor_le : floor ≤ committed
   pub committed_le : committed ≤ length l
-  pub handed : Part l h
+  pub handed : Taken l h
 
 -- of a node, with what it is after a step
-abbrev pub SoundNode : {A : Type 0} → List (List ℕ) → List (SystemEvent A) → List A → (ℕ → List A) →
+abbrev pub SoundNode : {A : Type 0} → List (List ℕ) → List (SystemEvent A) → List (Marked A)
+    → (ℕ → List (Marked A)) →
     ℕ
     → MachineState A → Type 0
 SoundNode cs events h lists x n = Sound cs events h lists x n.list n.epoch n.ids n.committed
     n.floor n.kept
 
--- the number of a pending request is the place of the batch that the request submitted
-abbrev pub IsPending : {A : Type 0} → List (SystemEvent A) → List A → ℕ × ℕ → Type 0
-IsPending events l p = (b : _) × (WasHandedIn events p.1 b × (place l p.0 ≡ Some b))
+-- the number of a pending request is the place of the batch that the request submitted, then or
+-- again
+abbrev pub IsPending : {A : Type 0} → List (SystemEvent A) → List (Marked A) → ℕ × ℕ → Type 0
+IsPending events l p = (b : _) × (MayAnswer events p.1 b × (place l p.0 ≡ Some b))
 
 -- the invariant of a node
-pub record NodeOk {A : Type 0} (cs : List (List ℕ)) (events : List (SystemEvent A)) (h : List A)
-    (lists : ℕ → List A) (x : ℕ) (n : MachineState A) : Type 0 where
+pub record NodeOk {A : Type 0} (cs : List (List ℕ)) (events : List (SystemEvent A))
+    (h : List (Marked A))
+    (lists : ℕ → List (Marked A)) (x : ℕ) (n : MachineState A) : Type 0 where
   pub sound : Sound cs events h lists x n.list n.epoch n.ids n.committed n.floor n.kept
   pub pending : AllByRecursion (IsPending events n.list) n.pending
   pub tail : n.running ≡ true → is_tail n.ids x ≡ true → n.committed ≡ length n.list
   -- no snapshot is open below the floor
   pub snapshots : AllByRecursion (λ s. n.floor ≤ s) n.snapshots
-  -- requests wait in order of number
-  pub rising : RisesFrom 0 n.pending
+  -- requests wait in order of number, and then of request
+  pub rising : AreInTurnFrom (1, 0) n.pending
   pub resend : n.running ≡ true → is_tail n.ids x ≡ false → n.committed ≤ n.successor_has
 
 -- The invariant of a frame. It is addressed to a node of its epoch. A Forward has a batch of its
 -- sender and of all nodes before the sender, an Ack the length of a list that all nodes have.
-abbrev pub FrameOk : {A : Type 0} → List (List ℕ) → List (SystemEvent A) → (ℕ → List A) → Message A
+abbrev pub FrameOk : {A : Type 0} → List (List ℕ) → List (SystemEvent A) → (ℕ → List (Marked A))
+    → Message A
     → Type 0
 FrameOk cs events lists (Forward to e from number batch) = (has (at_epoch cs e) to ≡ true)
     × ((z : ℕ) → IsUpTo cs e from z → place (lists z) number ≡ Some batch)
@@ -77,7 +84,8 @@ FrameOk cs events lists (Ack to e from committed have) = (has (at_epoch cs e) to
     × CommittedBy cs events e l))
 
 -- a reply is about a list with which the list of every node of the last configuration begins
-abbrev pub ReplyOk : {A : Type 0} → List (List ℕ) → List (SystemEvent A) → (ℕ → List A) → Response A
+abbrev pub ReplyOk : {A : Type 0} → List (List ℕ) → List (SystemEvent A) → (ℕ → List (Marked A))
+    → Response A
     → Type 0
 ReplyOk cs events lists (Committed i n) =
     (l : List _) × ((length l ≡ n) × IsPending events l (n, i) × Safe lists (last_of cs) l)
@@ -86,11 +94,12 @@ ReplyOk cs events lists (Opened i s) = (l : List _) × ((length l ≡ s) × Safe
 ReplyOk cs events lists _ = Unit {0}
 
 -- the lists of all nodes
-abbrev pub lists_of : {A : Type 0} → SystemState A → ℕ → List A
+abbrev pub lists_of : {A : Type 0} → SystemState A → ℕ → List (Marked A)
 lists_of w y = (w.nodes y).list
 
 -- the invariant of a world
-pub record WorldOk {A : Type 0} (cs : List (List ℕ)) (events : List (SystemEvent A)) (h : List A)
+pub record WorldOk {A : Type 0} (cs : List (List ℕ)) (events : List (SystemEvent A))
+    (h : List (Marked A))
     (w : SystemState A) : Type 0 where
   pub nodes : (x : ℕ) → NodeOk cs events h (lists_of w) x (w.nodes x)
   pub frames : AllByRecursion (FrameOk cs events (lists_of w)) w.frames
@@ -98,7 +107,7 @@ pub record WorldOk {A : Type 0} (cs : List (List ℕ)) (events : List (SystemEve
 
 -- a prefix of a committed list is committed
 pub shorter_committed : {A : Type 0} {cs : List (List ℕ)} {events : List (SystemEvent A)} (e : ℕ)
-    (l m : List A) → IsPrefix l m → WasCommitted cs events e m → WasCommitted cs events e l
+    (l m : List (Marked A)) → IsPrefix l m → WasCommitted cs events e m → WasCommitted cs events e l
 shorter_committed e l m b c = record {
   before = c.before;
   later = c.later;
@@ -109,14 +118,16 @@ shorter_committed e l m b c = record {
   begins = begins_trans b c.begins;
 }
 
-module _ {A : Type 0} (cs : List (List ℕ)) (events : List (SystemEvent A)) (lists more : ℕ → List A)
+module _ {A : Type 0} (cs : List (List ℕ)) (events : List (SystemEvent A))
+    (lists more : ℕ → List (Marked A))
     (grow : (y : ℕ) → IsPrefix (lists y) (more y)) where
   -- growing lists keep the batches that every node has
-  pub safe_grows : (c : List ℕ) (l : List A) → Safe lists c l → Safe more c l
+  pub safe_grows : (c : List ℕ) (l : List (Marked A)) → Safe lists c l → Safe more c l
   safe_grows c l s y h = begins_trans (s y h) (grow y)
 
   -- the invariant of a node is kept as other lists grow
-  pub node_grows : (h r : List A) (x : ℕ) (n : MachineState A) → NodeOk cs events h lists x n
+  pub node_grows : (h r : List (Marked A)) (x : ℕ) (n : MachineState A)
+      → NodeOk cs events h lists x n
       → NodeOk cs events (h ++ r) more x n
   node_grows h r x n ok =
       let s = ok.sound in
@@ -130,7 +141,7 @@ module _ {A : Type 0} (cs : List (List ℕ)) (events : List (SystemEvent A)) (li
           kept_le = s.kept_le;
           floor_le = s.floor_le;
           committed_le = s.committed_le;
-          handed = part_wider n.list h r s.handed;
+          handed = taken_wider n.list h r s.handed;
         };
         pending = ok.pending;
         tail = ok.tail;

@@ -1,4 +1,5 @@
 pub mod Configuration
+pub mod Marks
 pub mod Submitted
 pub mod Invariant
 pub mod Cases
@@ -12,8 +13,10 @@ pub mod Worlds
 pub mod Reached
 pub mod History
 pub mod Consequences
+pub mod SubmitMaps
 pub mod NodeMaps
 pub mod WorldMaps
 pub mod Refusals
 pub mod Places
 pub mod Outcomes
+pub mod Once

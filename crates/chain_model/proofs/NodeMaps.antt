@@ -1,169 +1,44 @@
--- A step of a node does not look into the batches: it goes with every map of them.
-use Rattle.std.proofs.Common.{◌≡◌, ℕ, zero, suc, ◌-◌, ◌^◌, List, [], ◌∷◌, ◌++◌, length, map}
-use Rattle.std.proofs.Common.{option_map, Option, Some, None, Bool, true, false, cond, not, ◌==◌}
+-- A step of a node does not look into the contents of batches: it goes with every map of them.
+use Rattle.std.proofs.Common.{◌≡◌, ℕ, suc, List, [], ◌∷◌, ◌++◌, length, map}
+use Rattle.std.proofs.Common.{Option, Some, None, Bool, true, false, cond, not, ◌==◌}
 use Rattle.std.proofs.Common.{◌&&◌, nat_le, nat_lt, sym, refl, ◌∙◌, ap, ap₂}
-use Rattle.std.proofs.lemmas.List.{length-map, map-append, take-map}
-use Rattle.kv_types.specs.{place, has}
-use Rattle.configurations.specs.{is_head, is_tail, predecessor, successor}
+use Rattle.std.proofs.lemmas.List.{map-append, take-map}
+use Rattle.kv_types.specs.{Marked, has}
+use Rattle.configurations.specs.{is_tail, predecessor, successor}
 use Rattle.configurations.specs.NodeLists.{leaves_out}
 use Rattle.chain_model.specs.declared.refusal.Refusal.TheVariants as refusal
 use Rattle.chain_model.specs.declared.drop_reason.DropReason.TheVariants as reason
 use Rattle.chain_model.specs.declared.drop_reason.DropReason.{DropReason}
 use Rattle.chain_model.specs.Messages.{Ack, Forward, Message}
-use Rattle.chain_model.specs.Requests.{Close, Committed, Open, Read, Response, Request, Shows}
+use Rattle.chain_model.specs.Requests.{Close, Open, Read, Request, Shows}
 use Rattle.chain_model.specs.Requests.{Submit}
 use Rattle.kv_types.specs.Snapshots.{is_open}
-use Rattle.chain_model.specs.Machine.{Answer, MachineState, dropped_for, due, not_due}
+use Rattle.chain_model.specs.Machine.{Answer, MachineState, dropped_for}
 use Rattle.chain_model.specs.Machine.{refused}
 use Rattle.chain_model.specs.Machine.{replied, started}
-use Rattle.chain_model.specs.Rules.{accept, ack, ack_to, acknowledge, adopt, adopted, append, ask}
-use Rattle.chain_model.specs.Rules.{remove_snapshot, close_snapshot, forward, forward_to, forwards}
-use Rattle.chain_model.specs.Rules.{if_readable, is_some_of, longer_for, moved, notice}
+use Rattle.chain_model.specs.Rules.{ack, acknowledge, adopt, adopted, append, ask}
+use Rattle.chain_model.specs.Rules.{remove_snapshot, close_snapshot, forward, forwards}
+use Rattle.chain_model.specs.Rules.{if_readable, is_some_of, moved, notice}
 use Rattle.chain_model.specs.Rules.{add_snapshot}
-use Rattle.chain_model.specs.Rules.{on_ack, receive, resend, reply_read, submit, tail_commits}
+use Rattle.chain_model.specs.Rules.{on_ack, receive, resend, reply_read, tail_commits}
 use Rattle.chain_model.specs.Rules.{receive_ack, receive_forward, ack_duplicate, tend, tick, acked}
-use Rattle.chain_model.specs.Maps.{answer_map, frame_map, node_map, reply_map, request_map}
-
--- a function of one of two values is one of two values
-pub cond_of : {X Y : Type 0} (g : X → Y) (t t' : Bool) (u v : X) (u' v' : Y) → t ≡ t' → g u ≡ u'
-    → g v ≡ v' → g (cond t u v) ≡ cond t' u' v'
-cond_of g true t' u v u' v' e p q = p ∙ ap (λ b. cond b u' v') e
-cond_of g false t' u v u' v' e p q = q ∙ ap (λ b. cond b u' v') e
-
--- the answer of a node that has appended batch k
-abbrev sent : {A : Type 0} → ℕ → ℕ → MachineState A → Answer A
-sent x k m = record {
-  node = m;
-  frames = forward x m k ++ cond (is_tail m.ids x) (ack x m) [];
-  replies = [];
-  dropped = None;
-}
+use Rattle.chain_model.specs.Maps.{answer_map, frame_map, marked_map, node_map}
+use Rattle.chain_model.specs.Maps.{request_map}
+use Rattle.chain_model.proofs.SubmitMaps.{ack_to_map, acknowledge_map, answer, cond_of, forward_map}
+use Rattle.chain_model.proofs.SubmitMaps.{forwards_map, sent, size, submit_map, tail_map, three}
 
 module _ {A B : Type 0} (f : A → B) where
-  -- the element at a place of the images is the image of the element there
-  pub map-place : (l : List A) (n : ℕ) → place (map f l) n ≡ option_map f (place l n)
-  map-place [] n = refl
-  map-place (x ∷ l) zero = refl
-  map-place (x ∷ l) (suc zero) = refl
-  map-place (x ∷ l) (suc (suc n)) = map-place l (suc n)
-
-  -- images are as many
-  size : (n : MachineState A) → length (map f n.list) ≡ length n.list
-  size n = length-map n.list f
-
-  -- a Forward commutes with the map
-  forward_to_map : (o : Option ℕ) (x : ℕ) (n : MachineState A) (k : ℕ) (b : Option A)
-      → map (frame_map f) (forward_to o x n k b) ≡ forward_to o x (node_map f n) k (option_map f b)
-  forward_to_map None x n k b = refl
-  forward_to_map (Some s) x n k None = refl
-  forward_to_map (Some s) x n k (Some b) = refl
-
-  -- the Forward of a batch of the list commutes with the map
-  forward_map : (x : ℕ) (n : MachineState A) (k : ℕ) → map (frame_map f) (forward x n k) ≡ forward x
-      (node_map f n) k
-  forward_map x n k = forward_to_map (successor n.ids x) x n k (place n.list k)
-      ∙ ap (λ b. forward_to (successor n.ids x) x (node_map f n) k b) (sym (map-place n.list k))
-
-  -- several Forwards in a row commute with the map
-  forwards_map : (x : ℕ) (n : MachineState A) (k count : ℕ) → map (frame_map f)
-      (forwards x n k count)
-      ≡ forwards x (node_map f n) k count
-  forwards_map x n k zero = refl
-  forwards_map x n k (suc count) =
-      map-append (frame_map f) (forward x n (suc k)) (forwards x n (suc k) count)
-      ∙ ap₂ (λ (p q : List (Message B)). p ++ q) (forward_map x n (suc k))
-      (forwards_map x n (suc k) count)
-
-  -- an Ack goes with it
-  ack_to_map : (o : Option ℕ) (x : ℕ) (n : MachineState A) → map (frame_map f) (ack_to o x n) ≡
-      ack_to o
-      x (node_map f n)
-  ack_to_map None x n = refl
-  ack_to_map (Some p) x n = ap (λ k. Ack p n.epoch x n.committed k ∷ []) (sym (size n))
-
-  -- replies that are due do not look into batches
-  due_map : (k : ℕ) (ps : List (ℕ × ℕ)) → map (reply_map f) (due k ps) ≡ due k ps
-  due_map k [] = refl
-  due_map k (p ∷ ps) =
-      cond_of (map (reply_map f)) (nat_le p.0 k) (nat_le p.0 k) (Committed p.1 p.0 ∷ due k ps)
-      (due k ps) (Committed p.1 p.0 ∷ due k ps) (due k ps) refl
-      (ap (λ rs. Committed p.1 p.0 ∷ rs) (due_map k ps)) (due_map k ps)
-
-  -- two answers of one node are one if frames and replies are
-  answer : {C : Type 0} (n : MachineState C) (fs fs' : List (Message C))
-      (rs rs' : List (Response C))
-      (d : Option DropReason) → fs ≡ fs' → rs ≡ rs'
-      → ◌≡◌ {A = Answer C} (record { node = n; frames = fs; replies = rs; dropped = d })
-      (record { node = n; frames = fs'; replies = rs'; dropped = d })
-  answer n fs fs' rs rs' d p q = λ j. record { node = n; frames = p j; replies = q j; dropped = d }
-
-  -- replies to those who wait
-  acknowledge_map : (n : MachineState A) (fs : List (Message A)) (fs' : List (Message B))
-      → map (frame_map f) fs ≡ fs' → answer_map f (acknowledge n fs) ≡ acknowledge
-      (node_map f n) fs'
-  acknowledge_map n fs fs' e =
-      answer (record (node_map f n) { pending = not_due n.committed n.pending })
-      (map (frame_map f) fs) fs' (map (reply_map f) (due n.committed n.pending))
-      (due n.committed n.pending) None e (due_map n.committed n.pending)
-
-  -- a tail that commits
-  tail_map : (x : ℕ) (n : MachineState A) → node_map f (tail_commits x n) ≡ tail_commits x
-      (node_map f n)
-  tail_map x n =
-      cond_of (node_map f) (is_tail n.ids x) (is_tail n.ids x)
-      (record n { committed = length n.list }) n
-      (record (node_map f n) { committed = length (map f n.list) }) (node_map f n) refl
-      (ap (λ k. record (node_map f n) { committed = k }) (sym (size n))) refl
-
-  -- three tests in turn, the last of which may be another test of the same outcome
-  three : {X Y : Type 0} (g : X → Y) (s t u u' : Bool) (a b c d : X) (a' b' c' d' : Y) → u ≡ u'
-      → g a ≡ a' → g b ≡ b' → g c ≡ c' → g d ≡ d'
-      → g (cond s a (cond t b (cond u c d))) ≡ cond s a' (cond t b' (cond u' c' d'))
-  three g s t u u' a b c d a' b' c' d' same ea eb ec ed =
-      cond_of g s s a (cond t b (cond u c d)) a' (cond t b' (cond u' c' d')) refl ea
-      (cond_of g t t b (cond u c d) b' (cond u' c' d') refl eb
-      (cond_of g u u' c d c' d' same ec ed))
-
-  -- the head accepts a batch
-  accept_map : (x : ℕ) (n : MachineState A) (i : ℕ) (b : A)
-      → answer_map f (accept x n i b) ≡ accept x (node_map f n) i (f b)
-  accept_map x n i b =
-      let n' : MachineState B = node_map f n in
-      let m = tail_commits x (longer_for n i b) in
-      let k = suc (length n.list) in
-      let appends : node_map f (longer_for n i b) ≡ longer_for n' i (f b) = λ j. record n' {
-        list = map-append f n.list (b ∷ []) j;
-        pending = n.pending ++ (suc (sym (size n) j), i) ∷ [];
-      } in
-      let same : node_map f m ≡ tail_commits x (longer_for n' i (f b)) =
-      tail_map x (longer_for n i b) ∙ ap (tail_commits x) appends in
-      acknowledge_map m (forward x m k) (forward x (node_map f m) k) (forward_map x m k)
-      ∙ ap₂ (λ (o : MachineState B) (s : ℕ). acknowledge o (forward x o (suc s))) same
-      (sym (size n))
-
-  -- a submit
-  submit_map : (x : ℕ) (n : MachineState A) (i : ℕ) (b : A)
-      → answer_map f (submit x n i b) ≡ submit x (node_map f n) i (f b)
-  submit_map x n i b =
-      let n' : MachineState B = node_map f n in
-      let most = 2 ^ 63 - 1 in
-      three (answer_map f) (not (has n.ids x)) (not (is_head n.ids x)) (length n.list == most)
-      (length n'.list == most) (refused n i refusal.Removed) (refused n i refusal.NotHead)
-      (refused n i refusal.Exhausted) (accept x n i b) (refused n' i refusal.Removed)
-      (refused n' i refusal.NotHead) (refused n' i refusal.Exhausted) (accept x n' i (f b))
-      (ap (λ k. k == most) (sym (size n))) refl refl refl (accept_map x n i b)
-
   -- an answer of a node whose frames and replies go with the map
   sends_map : (n : MachineState A) (fs : List (Message A)) (fs' : List (Message B))
       (d : Option DropReason)
       → map (frame_map f) fs ≡ fs'
       → answer_map f (record { node = n; frames = fs; replies = []; dropped = d })
       ≡ record { node = node_map f n; frames = fs'; replies = []; dropped = d }
-  sends_map n fs fs' d e = answer (node_map f n) (map (frame_map f) fs) fs' [] [] d e refl
+  sends_map n fs fs' d e = answer f (node_map f n) (map (frame_map f) fs) fs' [] [] d e refl
 
   -- a batch that is appended
-  append_map : (x : ℕ) (n : MachineState A) (k : ℕ) (b : A)
-      → answer_map f (append x n k b) ≡ append x (node_map f n) k (f b)
+  append_map : (x : ℕ) (n : MachineState A) (k : ℕ) (b : Marked A)
+      → answer_map f (append x n k b) ≡ append x (node_map f n) k (marked_map f b)
   append_map x n k b =
       let n' : MachineState B = node_map f n in
       let more : MachineState A = record n { list = n.list ++ b ∷ [] } in
@@ -173,25 +48,26 @@ module _ {A B : Type 0} (f : A → B) where
       let acks' = cond (is_tail m.ids x) (ack x m') [] in
       let acks_map : map (frame_map f) acks ≡ acks' =
       cond_of (map (frame_map f)) (is_tail m.ids x) (is_tail m.ids x) (ack x m) [] (ack x m') []
-      refl (ack_to_map (predecessor m.ids x) x m) refl in
-      let same : m' ≡ tail_commits x (record n' { list = n'.list ++ f b ∷ [] }) =
-      tail_map x more
-      ∙ ap (tail_commits x) (λ j. record n' { list = map-append f n.list (b ∷ []) j }) in
+      refl (ack_to_map f (predecessor m.ids x) x m) refl in
+      let same : m' ≡ tail_commits x (record n' { list = n'.list ++ marked_map f b ∷ [] }) =
+      tail_map f x more
+      ∙ ap (tail_commits x)
+      (λ j. record n' { list = map-append (marked_map f) n.list (b ∷ []) j }) in
       sends_map m (forward x m k ++ acks) (forward x m' k ++ acks') None
       (map-append (frame_map f) (forward x m k) acks
-      ∙ ap₂ (λ (p q : List (Message B)). p ++ q) (forward_map x m k) acks_map)
+      ∙ ap₂ (λ (p q : List (Message B)). p ++ q) (forward_map f x m k) acks_map)
       ∙ ap (sent x k) same
 
   -- a batch that is forwarded
-  take_forward_map : (x : ℕ) (n : MachineState A) (k : ℕ) (b : A)
-      → answer_map f (receive_forward x n k b) ≡ receive_forward x (node_map f n) k (f b)
+  take_forward_map : (x : ℕ) (n : MachineState A) (k : ℕ) (b : Marked A)
+      → answer_map f (receive_forward x n k b) ≡ receive_forward x (node_map f n) k (marked_map f b)
   take_forward_map x n k b =
       let n' : MachineState B = node_map f n in
       cond_of (answer_map f) (k == suc (length n.list)) (k == suc (length n'.list))
-      (append x n k b) (ack_duplicate x n) (append x n' k (f b)) (ack_duplicate x n')
-      (ap (λ s. k == suc s) (sym (size n))) (append_map x n k b)
+      (append x n k b) (ack_duplicate x n) (append x n' k (marked_map f b)) (ack_duplicate x n')
+      (ap (λ s. k == suc s) (sym (size f n))) (append_map x n k b)
       (sends_map n (ack x n) (ack x n') (Some reason.OtherNumber)
-      (ack_to_map (predecessor n.ids x) x n))
+      (ack_to_map f (predecessor n.ids x) x n))
 
   -- the committed number is reported to the predecessor
   pass_on_map : (x : ℕ) (n : MachineState A) (committed have : ℕ)
@@ -200,9 +76,9 @@ module _ {A B : Type 0} (f : A → B) where
       let m = acked n committed have in
       let m' = node_map f m in
       let grew = nat_lt n.committed committed in
-      acknowledge_map m (cond grew (ack x m) []) (cond grew (ack x m') [])
+      acknowledge_map f m (cond grew (ack x m) []) (cond grew (ack x m') [])
       (cond_of (map (frame_map f)) grew grew (ack x m) [] (ack x m') [] refl
-      (ack_to_map (predecessor m.ids x) x m) refl)
+      (ack_to_map f (predecessor m.ids x) x m) refl)
 
   -- an acknowledgement
   take_ack_map : (x : ℕ) (n : MachineState A) (committed have : ℕ)
@@ -213,7 +89,7 @@ module _ {A B : Type 0} (f : A → B) where
       cond_of (answer_map f) (low && nat_le have (length n.list))
       (low && nat_le have (length n'.list)) (on_ack x n committed have)
       (dropped_for n reason.BadAck) (on_ack x n' committed have) (dropped_for n' reason.BadAck)
-      (ap (λ s. low && nat_le have s) (sym (size n))) (pass_on_map x n committed have) refl
+      (ap (λ s. low && nat_le have s) (sym (size f n))) (pass_on_map x n committed have) refl
 
   -- a frame
   pub receive_map : (x : ℕ) (n : MachineState A) (fr : Message A)
@@ -221,15 +97,15 @@ module _ {A B : Type 0} (f : A → B) where
   receive_map x n (Forward to e p k b) =
       let n' : MachineState B = node_map f n in
       let near = is_some_of (predecessor n.ids x) p in
-      three (answer_map f) (not (has n.ids x)) (not (e == n.epoch)) near near
+      three f (answer_map f) (not (has n.ids x)) (not (e == n.epoch)) near near
       (dropped_for n reason.Removed) (dropped_for n reason.OtherEpoch) (receive_forward x n k b)
       (dropped_for n reason.NotPredecessor) (dropped_for n' reason.Removed)
-      (dropped_for n' reason.OtherEpoch) (receive_forward x n' k (f b))
+      (dropped_for n' reason.OtherEpoch) (receive_forward x n' k (marked_map f b))
       (dropped_for n' reason.NotPredecessor) refl refl refl (take_forward_map x n k b) refl
   receive_map x n (Ack to e s committed have) =
       let n' : MachineState B = node_map f n in
       let near = is_some_of (successor n.ids x) s in
-      three (answer_map f) (not (has n.ids x)) (not (e == n.epoch)) near near
+      three f (answer_map f) (not (has n.ids x)) (not (e == n.epoch)) near near
       (dropped_for n reason.Removed) (dropped_for n reason.OtherEpoch)
       (receive_ack x n committed have)
       (dropped_for n reason.NotSuccessor) (dropped_for n' reason.Removed)
@@ -243,8 +119,8 @@ module _ {A B : Type 0} (f : A → B) where
       let m = adopted x n e ids in
       let same : node_map f m ≡ adopted x (node_map f n) e ids =
       ap (λ (k : MachineState B). record k { successor_has = k.committed })
-      (tail_map x (moved x n e ids)) in
-      acknowledge_map m (ack x m) (ack x (node_map f m)) (ack_to_map (predecessor m.ids x) x m)
+      (tail_map f x (moved x n e ids)) in
+      acknowledge_map f m (ack x m) (ack x (node_map f m)) (ack_to_map f (predecessor m.ids x) x m)
       ∙ ap (λ (k : MachineState B). acknowledge k (ack x k)) same
 
   -- a notice
@@ -268,8 +144,8 @@ module _ {A B : Type 0} (f : A → B) where
       let k = n.successor_has in
       sends_map n (forwards x n k 16 ++ ack x n) (forwards x n' k 16 ++ ack x n') None
       (map-append (frame_map f) (forwards x n k 16) (ack x n)
-      ∙ ap₂ (λ (p q : List (Message B)). p ++ q) (forwards_map x n k 16)
-      (ack_to_map (predecessor n.ids x) x n))
+      ∙ ap₂ (λ (p q : List (Message B)). p ++ q) (forwards_map f x n k 16)
+      (ack_to_map f (predecessor n.ids x) x n))
 
   -- a tick
   pub tick_map : (x : ℕ) (n : MachineState A) → answer_map f (tick x n) ≡ tick x (node_map f n)
@@ -286,7 +162,7 @@ module _ {A B : Type 0} (f : A → B) where
   readable_map x n i s a a' e =
       let n' : MachineState B = node_map f n in
       let high = nat_le s n.committed in
-      three (answer_map f) (not (has n.ids x)) (nat_lt s n.floor) high high
+      three f (answer_map f) (not (has n.ids x)) (nat_lt s n.floor) high high
       (refused n i refusal.Removed) (refused n i refusal.TooOld) a
       (refused n i refusal.NotCommitted) (refused n' i refusal.Removed)
       (refused n' i refusal.TooOld) a' (refused n' i refusal.NotCommitted) refl refl refl e refl
@@ -295,7 +171,7 @@ module _ {A B : Type 0} (f : A → B) where
   show_map : (n : MachineState A) (i s : ℕ) → answer_map f (reply_read n i s) ≡ reply_read
       (node_map f n) i s
   show_map n i s =
-      ap (λ l. replied (node_map f n) (Shows i s l)) (sym (take-map f s n.list))
+      ap (λ l. replied (node_map f n) (Shows i s l)) (sym (take-map (marked_map f) s n.list))
 
   -- a snapshot is opened
   opens_map : (x : ℕ) (n : MachineState A) (i s : ℕ)
@@ -346,7 +222,7 @@ module _ {A B : Type 0} (f : A → B) where
   pub ask_map : (x : ℕ) (n : MachineState A) (i : ℕ) (q : Request A) → answer_map f (ask x n i q) ≡
       ask x
       (node_map f n) i (request_map f q)
-  ask_map x n i (Submit b) = submit_map x n i b
+  ask_map x n i (Submit b) = submit_map f x n i b
   ask_map x n i (Read None) = shows_map x n i n.committed
   ask_map x n i (Read (Some at)) = shows_map x n i at
   ask_map x n i (Open None) = opens_map x n i n.committed
@@ -358,8 +234,8 @@ module _ {A B : Type 0} (f : A → B) where
       (node_map f n)
   started_map x n =
       let c : cond (is_tail n.ids x) (length n.list) n.floor ≡ cond (is_tail n.ids x)
-      (length (map f n.list)) n.floor = ap (λ k. cond (is_tail n.ids x) k n.floor)
-      (sym (size n)) in
+      (length (map (marked_map f) n.list)) n.floor = ap (λ k. cond (is_tail n.ids x) k n.floor)
+      (sym (size f n)) in
       λ j. record (node_map f n) {
         committed = c j;
         successor_has = c j;
@@ -367,8 +243,3 @@ module _ {A B : Type 0} (f : A → B) where
         pending = [];
         running = true;
       }
-
--- the same of any list
-pub map-place_of : {A B : Type 0} (f : A → B) (l : List A) (n : ℕ)
-    → place (map f l) n ≡ option_map f (place l n)
-map-place_of f l n = map-place f l n

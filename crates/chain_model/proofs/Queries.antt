@@ -3,7 +3,7 @@ use Rattle.std.proofs.Common.{◌≡◌, ℕ, ◌≤◌, min, max, List, [], ◌
 use Rattle.std.proofs.Common.{Bool, true, false, ◌==◌, sym, refl, ◌∙◌, arith, length-take-le}
 use Rattle.std.specs.List.{AllByRecursion}
 use Rattle.std.proofs.lemmas.Bool.{cond_both, false≢true}
-use Rattle.kv_types.specs.{Part}
+use Rattle.kv_types.specs.{Marked, Part}
 use Rattle.configurations.specs.{is_tail, last_of}
 use Rattle.chain_model.specs.declared.refusal.Refusal.{Refusal}
 use Rattle.chain_model.specs.Requests.{Close, Closed, Open, Opened, Read, Response, Request, Submit}
@@ -13,7 +13,7 @@ use Rattle.chain_model.specs.Rules.{ask, close_snapshot, number_read, open_snaps
 use Rattle.chain_model.specs.System.{SystemEvent}
 use Rattle.kv_types.specs.ListsLemmas.{begins_trans, every_map, take_less}
 use Rattle.chain_model.proofs.Configuration.{IsChain}
-use Rattle.chain_model.proofs.Submitted.{WasHandedIn}
+use Rattle.chain_model.proofs.Submitted.{AreAnswers, WasHandedIn}
 use Rattle.chain_model.proofs.Invariant.{NodeOk, ReplyOk, Safe, shorter_committed}
 use Rattle.chain_model.proofs.Cases.{close_cases, open_cases, read_cases}
 use Rattle.chain_model.proofs.Sends.{AnswerOk, Lands, refused_ok, safe_last, silent_ok}
@@ -40,7 +40,7 @@ every_without P s (t ∷ ts) each = cond_both (s == t) ts (t ∷ without s ts) (
 
 -- `lists` are the lists of all nodes after the step.
 module _ {A : Type 0} (cs : List (List ℕ)) (lawful : IsChain cs) (events : List (SystemEvent A))
-    (h : List A) (lists : ℕ → List A) (x : ℕ) where
+    (h : List (Marked A)) (lists : ℕ → List (Marked A)) (x : ℕ) where
   -- every node of the last configuration has the batches of a readable number
   readable_last : (n : MachineState A) (s : ℕ) → NodeOk cs events h lists x n → s ≤ n.committed
       → (length (take s n.list) ≡ s) × Safe lists (last_of cs) (take s n.list)
@@ -199,6 +199,7 @@ module _ {A : Type 0} (cs : List (List ℕ)) (lawful : IsChain cs) (events : Lis
   -- the premises of a request
   abbrev pub RequestOk : MachineState A → ℕ → Request A → Type 0
   RequestOk n i (Submit b) = WasHandedIn events i b × Part (n.list ++ b ∷ []) h
+      × AreAnswers events n.list i b
   RequestOk n i _ = Unit {0}
 
   -- a request
@@ -206,7 +207,7 @@ module _ {A : Type 0} (cs : List (List ℕ)) (lawful : IsChain cs) (events : Lis
       → Lands cs events lists x (ask x n i q).node → RequestOk n i q
       → AnswerOk cs events h lists x (ask x n i q)
   ask_ok n i (Submit b) ok here given =
-      submit_ok cs lawful events h lists x n i b ok given.0 given.1 here
+      submit_ok cs lawful events h lists x n i b ok given.0 given.1 given.2 here
   ask_ok n i (Read at) ok here given = read_ok n i at ok
   ask_ok n i (Open at) ok here given = open_ok n i at ok
   ask_ok n i (Close s) ok here given = close_ok n i s ok

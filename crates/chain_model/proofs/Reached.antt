@@ -1,16 +1,19 @@
 -- What is reached from the beginning: there all holds, lists only grow, so it holds after every
 -- run.
 use Rattle.std.proofs.Common.{◌≡◌, ℕ, ◌<◌, List, [], ◌∷◌, ◌++◌, length, true, refl, ◌∙◌, subst}
-use Rattle.std.proofs.Common.{arith, append_assoc, eq-eqb}
+use Rattle.std.proofs.Common.{arith, append_assoc, append-nil, ap, eq-eqb, inl}
+use Rattle.kv_types.specs.{Marked}
 use Rattle.configurations.specs.{at_epoch, is_tail}
 use Rattle.chain_model.specs.System.{SystemEvent, SystemState, first_state, state_after, reached}
 use Rattle.chain_model.specs.System.{run}
 use Rattle.kv_types.specs.ListsLemmas.{begins_nil, begins_refl}
 use Rattle.chain_model.proofs.Configuration.{IsChain}
-use Rattle.chain_model.proofs.Submitted.{WasHandedIn, accepted, all_told}
+use Rattle.chain_model.proofs.Marks.{taken_nil}
+use Rattle.chain_model.proofs.Submitted.{WasHandedIn, accepted, accepted_append}
+use Rattle.chain_model.proofs.Submitted.{accepted_by, accepted_part, among_part, handed, was_behind}
 use Rattle.chain_model.proofs.Invariant.{WorldOk}
 use Rattle.chain_model.proofs.WorldGrowth.{run_append}
-use Rattle.chain_model.proofs.Worlds.{Along, TailsIn, run_ok}
+use Rattle.chain_model.proofs.Worlds.{Along, EventOk, TailsIn, Told, run_ok}
 
 -- a chain has epoch 0
 some_epoch : (cs : List (List ℕ)) → IsChain cs → 0 < length cs
@@ -43,7 +46,7 @@ start_world_ok cs lawful events tails = record {
       kept_le = omega arith;
       floor_le = omega arith;
       committed_le = omega arith;
-      handed = tt;
+      handed = taken_nil [];
     };
     pending = tt;
     tail = λ up t. refl;
@@ -85,8 +88,50 @@ module _ {A : Type 0} (cs : List (List ℕ)) (lawful : IsChain cs) (events : Lis
               (along (before ++ f ∷ []) later next),
         )
 
+    -- the batches that were accepted before an event are answers where it submits them again
+    told_at : (before later : List (SystemEvent A)) (f : SystemEvent A)
+        → before ++ f ∷ later ≡ events
+        → EventOk cs lawful events (accepted cs before (first_state cs)) f
+    told_at before later f e = record {
+      submits = λ i b is. subst (λ es. WasHandedIn es i b) e
+          (was_behind before (f ∷ later) i b (inl is));
+      again = λ i b is a m among bears same. record {
+        before = before;
+        later = f ∷ later;
+        whole = e;
+        earlier = among_part a (accepted cs before (first_state cs)) (handed before)
+            (accepted_part cs before (first_state cs)) among;
+        mark = m;
+        bears = bears;
+        batch = b;
+        submits = inl is;
+        same = same;
+      };
+    }
+
+    -- so are those of every event on the way
+    told_in : (before later : List (SystemEvent A)) → before ++ later ≡ events
+        → Told cs lawful events later (accepted cs before (first_state cs))
+        (run cs before (first_state cs))
+    told_in before [] e = tt
+    told_in before (f ∷ later) e =
+        let w = run cs before (first_state cs) in
+        let next : before ++ (f ∷ []) ++ later ≡ events = append_assoc before (f ∷ []) later ∙ e in
+        let is : run cs (before ++ f ∷ []) (first_state cs) ≡ state_after cs w f =
+        run_append cs before (f ∷ []) (first_state cs) in
+        let so_far : accepted cs (before ++ f ∷ []) (first_state cs)
+        ≡ accepted cs before (first_state cs) ++ accepted_by cs w f =
+        accepted_append cs before (f ∷ []) (first_state cs)
+        ∙ ap (λ l. accepted cs before (first_state cs) ++ l) (append-nil (accepted_by cs w f)) in (
+          told_at before later f e,
+          subst (λ (l : List (Marked A)). Told cs lawful events later l (state_after cs w f)) so_far
+              (subst (λ (v : SystemState A). Told cs lawful events later
+              (accepted cs (before ++ f ∷ []) (first_state cs)) v) is
+              (told_in (before ++ f ∷ []) later next)),
+        )
+
     pub reached_ok : WorldOk cs events (accepted cs events (first_state cs)) (reached cs events)
     reached_ok =
-        run_ok cs lawful events events (all_told (WasHandedIn events) events (λ i b was. was)) []
-        (first_state cs) (along [] events refl)
+        run_ok cs lawful events events [] (first_state cs) (told_in [] events refl)
+        (along [] events refl)
         (start_world_ok cs lawful events (tails_in [] events refl))

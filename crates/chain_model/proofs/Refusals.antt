@@ -5,7 +5,7 @@ use Rattle.std.proofs.Common.{length, flat_map, Option, Some, None, Bool, true, 
 use Rattle.std.proofs.Common.{refl, ap, subst, arith}
 use Rattle.std.specs.List.{AllByRecursion}
 use Rattle.std.proofs.lemmas.Bool.{cond_both, cond-true, false≢true}
-use Rattle.kv_types.specs.{Part, place}
+use Rattle.kv_types.specs.{Marked, Part, place}
 use Rattle.kv_types.specs.ListsLemmas.{every_append, every_map}
 use Rattle.configurations.specs.{at_epoch}
 use Rattle.chain_model.specs.declared.refusal.Refusal.{Refusal}
@@ -26,7 +26,7 @@ use Rattle.chain_model.proofs.Cases.{ack_cases, close_cases, forward_cases, noti
 use Rattle.chain_model.proofs.Cases.{open_cases, read_cases, submit_cases, take_ack_cases}
 use Rattle.chain_model.proofs.Cases.{take_forward_cases, tick_cases}
 use Rattle.chain_model.proofs.Submitted.{accepted, accepted_by, due_refuses_none, handed_by}
-use Rattle.chain_model.proofs.Submitted.{has_refusal}
+use Rattle.chain_model.proofs.Submitted.{has_refusal, repeat_refuses_none}
 
 -- ---- what an event refuses
 
@@ -61,7 +61,8 @@ module _ {B : Type 0} (cs : List (List ℕ)) (w : SystemState B) where
       by (Submit b) =
           let m = tail_commits x (longer_for (w.nodes x) i b) in
           submit_cases Fits x (w.nodes x) i b refuses
-          (λ kept head. inl (due_refuses_none B m.committed m.pending))
+          (λ kept head next. inl (due_refuses_none B m.committed m.pending))
+          (λ k mark bears held. inl (repeat_refuses_none (w.nodes x) i k))
       by (Read at) = read_cases Fits x (w.nodes x) i at refuses (λ low le. inl refl)
       by (Open at) = open_cases Fits x (w.nodes x) i at refuses (λ low le. inl refl)
       by (Close s) = close_cases Fits x (w.nodes x) i s refuses (inl refl)
@@ -158,8 +159,8 @@ module _ {B : Type 0} (cs : List (List ℕ)) (w : SystemState B) where
 
 module _ {A : Type 0} where
   -- the batch has this place
-  abbrev IsAt : ℕ → ℕ × A → Type 0
-  IsAt k p = p.0 ≡ k
+  abbrev IsAt : ℕ → Marked (ℕ × A) → Type 0
+  IsAt k p = p.content.0 ≡ k
 
   -- the events from place k on have the numbers of their places, and so have their batches
   abbrev pub AreNumbered : ℕ → List (SystemEvent (ℕ × A)) → Type 0
@@ -168,12 +169,13 @@ module _ {A : Type 0} where
       (HasNumber k e × AllByRecursion (IsAt k) (handed_by e)) × AreNumbered (suc k) es
 
   -- a refusal is of a request from k on, of which none of these batches is
-  abbrev pub RefusedIsNot : ℕ → List (ℕ × A) → Response (ℕ × A) → Type 0
-  RefusedIsNot k B (Refused i why) = (k ≤ i) × AllByRecursion (λ (p : ℕ × A). p.0 ≢ i) B
+  abbrev pub RefusedIsNot : ℕ → List (Marked (ℕ × A)) → Response (ℕ × A) → Type 0
+  RefusedIsNot k B (Refused i why) = (k ≤ i)
+      × AllByRecursion (λ (p : Marked (ℕ × A)). p.content.0 ≢ i) B
   RefusedIsNot k B reply = Unit {0}
 
   -- replies that refuse nothing say nothing
-  quiet_replies : (k : ℕ) (B : List (ℕ × A)) (replies : List (Response (ℕ × A))) →
+  quiet_replies : (k : ℕ) (B : List (Marked (ℕ × A))) (replies : List (Response (ℕ × A))) →
       has_refusal replies ≡ false → AllByRecursion (RefusedIsNot k B) replies
   quiet_replies k B [] is = tt
   quiet_replies k B (Committed i n ∷ replies) is = (tt, quiet_replies k B replies is)
@@ -184,7 +186,8 @@ module _ {A : Type 0} where
 
   module _ (cs : List (List ℕ)) where
     -- what holds of the batches of an event holds of those that it has accepted
-    accepted_have : (P : ℕ × A → Type 0) (w : SystemState (ℕ × A)) (e : SystemEvent (ℕ × A)) →
+    accepted_have : (P : Marked (ℕ × A) → Type 0) (w : SystemState (ℕ × A))
+        (e : SystemEvent (ℕ × A)) →
         AllByRecursion P (handed_by e) → AllByRecursion P (accepted_by cs w e)
     accepted_have P w e each =
         cond_both (has_refusal (outcome w cs e).replies) [] (handed_by e) (AllByRecursion P)
@@ -192,20 +195,24 @@ module _ {A : Type 0} where
 
     -- accepted batches have places from k on
     accepted_from : (k : ℕ) (es : List (SystemEvent (ℕ × A))) (w : SystemState (ℕ × A)) →
-        AreNumbered k es → AllByRecursion (λ (p : ℕ × A). k ≤ p.0) (accepted cs es w)
+        AreNumbered k es
+        → AllByRecursion (λ (p : Marked (ℕ × A)). k ≤ p.content.0) (accepted cs es w)
     accepted_from k [] w are = tt
     accepted_from k (e ∷ es) w are =
         let next = state_after cs w e in
-        every_append (λ (p : ℕ × A). k ≤ p.0) (accepted_by cs w e) (accepted cs es next)
-        (accepted_have (λ p. k ≤ p.0) w e (every_map (IsAt k) (λ p. k ≤ p.0) (handed_by e)
+        every_append (λ (p : Marked (ℕ × A)). k ≤ p.content.0) (accepted_by cs w e)
+        (accepted cs es next)
+        (accepted_have (λ p. k ≤ p.content.0) w e
+        (every_map (IsAt k) (λ p. k ≤ p.content.0) (handed_by e)
         (λ p is. omega (arith, is)) are.0.1))
-        (every_map (λ (p : ℕ × A). suc k ≤ p.0) (λ p. k ≤ p.0) (accepted cs es next)
+        (every_map (λ (p : Marked (ℕ × A)). suc k ≤ p.content.0) (λ p. k ≤ p.content.0)
+        (accepted cs es next)
         (λ p le. omega (arith, le)) (accepted_from (suc k) es next are.1))
 
     module _ (k : ℕ) (e : SystemEvent (ℕ × A)) (es : List (SystemEvent (ℕ × A)))
         (w : SystemState (ℕ × A)) (are : AreNumbered k (e ∷ es)) where
       -- the batches that are accepted after the event
-      abbrev rest : List (ℕ × A)
+      abbrev rest : List (Marked (ℕ × A))
       rest = accepted cs es (state_after cs w e)
 
       -- a later refusal is of another request than this event's
@@ -213,8 +220,9 @@ module _ {A : Type 0} where
           RefusedIsNot k (accepted_by cs w e ++ rest) reply
       later (Refused i why) is = (
         omega (arith, is.0),
-        every_append (λ (p : ℕ × A). p.0 ≢ i) (accepted_by cs w e) rest
-            (accepted_have (λ p. p.0 ≢ i) w e (every_map (IsAt k) (λ p. p.0 ≢ i) (handed_by e)
+        every_append (λ (p : Marked (ℕ × A)). p.content.0 ≢ i) (accepted_by cs w e) rest
+            (accepted_have (λ p. p.content.0 ≢ i) w e
+            (every_map (IsAt k) (λ p. p.content.0 ≢ i) (handed_by e)
             (λ p at same. omega (arith, at, same, is.0)) are.0.1)) is.1,
       )
       later (Committed i n) is = tt
@@ -226,8 +234,8 @@ module _ {A : Type 0} where
       now : AllByRecursion (RefusedIsNot k (accepted_by cs w e ++ rest)) (outcome w cs e).replies
       now =
           let replies = (outcome w cs e).replies in
-          let lacks : AllByRecursion (λ (p : ℕ × A). p.0 ≢ k) rest =
-          every_map (λ (p : ℕ × A). suc k ≤ p.0) (λ p. p.0 ≢ k) rest
+          let lacks : AllByRecursion (λ (p : Marked (ℕ × A)). p.content.0 ≢ k) rest =
+          every_map (λ (p : Marked (ℕ × A)). suc k ≤ p.content.0) (λ p. p.content.0 ≢ k) rest
           (λ p le same. omega (arith, le, same))
           (accepted_from (suc k) es (state_after cs w e) are.1)
           in
@@ -238,7 +246,8 @@ module _ {A : Type 0} where
           subst (λ l. AllByRecursion (RefusedIsNot k (accepted_by cs w e ++ rest)) l) (sym one.1) (
             (
               omega arith,
-              subst (λ l. AllByRecursion (λ (p : ℕ × A). p.0 ≢ k) (l ++ rest)) (sym none) lacks,
+              subst (λ l. AllByRecursion (λ (p : Marked (ℕ × A)). p.content.0 ≢ k) (l ++ rest))
+                  (sym none) lacks,
             ),
             tt,
           ))
@@ -258,16 +267,20 @@ module _ {A : Type 0} where
         (later k e es w are) (refused_is_not (suc k) es next are.1))
 
   -- a shorter list of these batches has none either
-  part_is_not : (k : ℕ) (l m : List (ℕ × A)) (reply : Response (ℕ × A)) → Part l m →
+  part_is_not : (k : ℕ) (l m : List (Marked (ℕ × A))) (reply : Response (ℕ × A)) → Part l m →
       RefusedIsNot k m reply → RefusedIsNot k l reply
   part_is_not k l m (Refused i why) part is = (is.0, part_has l m part is.1)
     where
-      part_has : (l m : List (ℕ × A)) → Part l m → AllByRecursion (λ (p : ℕ × A). p.0 ≢ i) m →
-          AllByRecursion (λ (p : ℕ × A). p.0 ≢ i) l
+      part_has : (l m : List (Marked (ℕ × A))) → Part l m
+          → AllByRecursion (λ (p : Marked (ℕ × A)). p.content.0 ≢ i) m →
+          AllByRecursion (λ (p : Marked (ℕ × A)). p.content.0 ≢ i) l
       part_has [] m part each = tt
       part_has (x ∷ l) [] part each = absurd part
-      part_has (x ∷ l) (y ∷ m) (inl part) each =
-          (subst (λ (p : ℕ × A). p.0 ≢ i) (sym part.0) each.0, part_has l m part.1 each.1)
+      part_has (x ∷ l) (y ∷ m) (inl part) each = (
+        subst (λ (p : Marked (ℕ × A)). p.content.0 ≢ i)
+            (sym part.0) each.0,
+        part_has l m part.1 each.1,
+      )
       part_has (x ∷ l) (y ∷ m) (inr part) each = part_has (x ∷ l) m part each.1
   part_is_not k l m (Committed i n) part is = tt
   part_is_not k l m (Shows i n b) part is = tt
@@ -275,7 +288,8 @@ module _ {A : Type 0} where
   part_is_not k l m (Closed i n) part is = tt
 
   -- so of all replies
-  pub parts_are_not : (k : ℕ) (l m : List (ℕ × A)) (replies : List (Response (ℕ × A))) → Part l m →
+  pub parts_are_not : (k : ℕ) (l m : List (Marked (ℕ × A))) (replies : List (Response (ℕ × A)))
+      → Part l m →
       AllByRecursion (RefusedIsNot k m) replies → AllByRecursion (RefusedIsNot k l) replies
   parts_are_not k l m replies part each =
       every_map (RefusedIsNot k m) (RefusedIsNot k l) replies

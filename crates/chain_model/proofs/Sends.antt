@@ -3,8 +3,9 @@ use Rattle.std.proofs.Common.{◌≡◌, ⊎_elim, ℕ, zero, suc, ◌≤◌, Li
 use Rattle.std.proofs.Common.{None, true, nat_le, sym, refl, subst, arith, length-take-le}
 use Rattle.std.proofs.Common.{leb-true}
 use Rattle.std.specs.List.{AllByRecursion}
+use Rattle.std.specs.Prelude.{IsTrue}
 use Rattle.std.proofs.lemmas.Bool.{cond_both}
-use Rattle.kv_types.specs.{Part, place, AllDifferent, has}
+use Rattle.kv_types.specs.{AllDifferent, Marked, Part, has, place}
 use Rattle.configurations.specs.{at_epoch, is_tail, last_of, predecessor, successor}
 use Rattle.configurations.specs.NodeLists.{IsBeforeIn}
 use Rattle.chain_model.specs.declared.refusal.Refusal.{Refusal}
@@ -12,10 +13,11 @@ use Rattle.chain_model.specs.Messages.{Message}
 use Rattle.chain_model.specs.Requests.{Committed}
 use Rattle.chain_model.specs.Machine.{Answer, MachineState, dropped_for, due, not_due, refused}
 use Rattle.chain_model.specs.Machine.{silent}
-use Rattle.chain_model.specs.Rules.{ack_to, acknowledge, forward, forward_to, forwards}
+use Rattle.chain_model.specs.Rules.{ack_to, acknowledge, forward, forward_to, forwards, is_prior}
 use Rattle.chain_model.specs.System.{SystemEvent}
 use Rattle.chain_model.specs.Order.{WasCommitted}
-use Rattle.chain_model.specs.Retention.{RisesFrom}
+use Rattle.chain_model.specs.Retention.{AreInTurnFrom}
+use Rattle.chain_model.specs.RulesLemmas.{prior_trans}
 use Rattle.kv_types.specs.ListsLemmas.{begins-place, begins_trans, every_append, place_take}
 use Rattle.kv_types.specs.ListsLemmas.{take_less}
 use Rattle.chain_model.proofs.Configuration.{IsChain, all_different, before_back, before_left}
@@ -24,21 +26,22 @@ use Rattle.chain_model.proofs.Configuration.{predecessor_before, successor_is_in
 use Rattle.chain_model.proofs.Invariant.{FrameOk, IsPending, NodeOk, ReplyOk, Safe, SoundNode}
 
 -- the requirement on an answer
-pub record AnswerOk {A : Type 0} (cs : List (List ℕ)) (events : List (SystemEvent A)) (h : List A)
-    (lists : ℕ → List A) (x : ℕ) (a : Answer A) : Type 0 where
+pub record AnswerOk {A : Type 0} (cs : List (List ℕ)) (events : List (SystemEvent A))
+    (h : List (Marked A))
+    (lists : ℕ → List (Marked A)) (x : ℕ) (a : Answer A) : Type 0 where
   pub node : NodeOk cs events h lists x a.node
   pub frames : AllByRecursion (FrameOk cs events lists) a.frames
   pub replies : AllByRecursion (ReplyOk cs events lists) a.replies
 
 -- the new list of a node in the world, and the batches that a tail commits by it
 pub record Lands {A : Type 0} (cs : List (List ℕ)) (events : List (SystemEvent A))
-    (lists : ℕ → List A) (x : ℕ) (n : MachineState A) : Type 0 where
+    (lists : ℕ → List (Marked A)) (x : ℕ) (n : MachineState A) : Type 0 where
   pub list : lists x ≡ n.list
   pub tail : is_tail (at_epoch cs n.epoch) x ≡ true → WasCommitted cs events n.epoch n.list
 
 -- `lists` are the lists of all nodes after the step.
 module _ {A : Type 0} (cs : List (List ℕ)) (lawful : IsChain cs) (events : List (SystemEvent A))
-    (h : List A) (lists : ℕ → List A) (x : ℕ) where
+    (h : List (Marked A)) (lists : ℕ → List (Marked A)) (x : ℕ) where
   -- the order of a smaller configuration is that of the first
   pub before_first : (n : MachineState A) → SoundNode cs events h lists x n → (y z : ℕ)
       → IsBeforeIn n.ids y z → IsBeforeIn (at_epoch cs 0) y z
@@ -61,7 +64,7 @@ module _ {A : Type 0} (cs : List (List ℕ)) (lawful : IsChain cs) (events : Lis
       (all_different cs n.epoch lawful s.in_range)
 
   -- every node of the last configuration has the batches that a node's configuration has
-  pub safe_last : (n : MachineState A) → SoundNode cs events h lists x n → (l : List A)
+  pub safe_last : (n : MachineState A) → SoundNode cs events h lists x n → (l : List (Marked A))
       → Safe lists n.ids l → Safe lists (last_of cs) l
   safe_last n s l safe y k =
       let last = last_epoch cs lawful in
@@ -100,7 +103,7 @@ module _ {A : Type 0} (cs : List (List ℕ)) (lawful : IsChain cs) (events : Lis
 
   -- a batch of the list is in all lists before
   pub forward_ok : (n : MachineState A) → SoundNode cs events h lists x n → lists x ≡ n.list
-      → (k : ℕ) (o : Option ℕ) (b : Option A) → successor n.ids x ≡ o → place n.list k ≡ b
+      → (k : ℕ) (o : Option ℕ) (b : Option (Marked A)) → successor n.ids x ≡ o → place n.list k ≡ b
       → AllByRecursion (FrameOk cs events lists) (forward_to o x n k b)
   forward_ok n s here k None b next e = tt
   forward_ok n s here k (Some to) None next e = tt
@@ -125,6 +128,22 @@ module _ {A : Type 0} (cs : List (List ℕ)) (lawful : IsChain cs) (events : Lis
       (forward_ok n s here (suc k) (successor n.ids x) (place n.list (suc k)) refl refl)
       (forwards_ok n s here (suc k) count)
 
+  -- the acknowledgement of a request whose batch is committed is true
+  pub committed_ok : (n : MachineState A) → SoundNode cs events h lists x n → (p : ℕ × ℕ)
+      → p.0 ≤ n.committed → IsPending events n.list p → ReplyOk cs events lists (Committed p.1 p.0)
+  committed_ok n s p small pending = (
+    take p.0 n.list,
+    (
+      length-take-le p.0 n.list (omega (arith, s.committed_le)),
+      (
+        pending.0,
+        (pending.1.0, place_take p.0 n.list p.0 pending.0 pending.1.1 (omega arith)),
+      ),
+      safe_last n s (take p.0 n.list)
+          (λ y k. begins_trans (take_less p.0 n.committed n.list small) (s.safe y k)),
+    ),
+  )
+
   -- the replies to requests whose batches are committed are true
   pub due_ok : (n : MachineState A) → SoundNode cs events h lists x n → (ps : List (ℕ × ℕ))
       → AllByRecursion (IsPending events n.list) ps
@@ -133,30 +152,15 @@ module _ {A : Type 0} (cs : List (List ℕ)) (lawful : IsChain cs) (events : Lis
   due_ok n s (p ∷ ps) pending =
       cond_both (nat_le p.0 n.committed) (Committed p.1 p.0 ∷ due n.committed ps)
       (due n.committed ps) (λ rs. AllByRecursion (ReplyOk cs events lists) rs)
-      (λ le.
-      let small : p.0 ≤ n.committed = leb-true p.0 n.committed le in (
-        (
-          take p.0 n.list,
-          (
-            length-take-le p.0 n.list (omega (arith, s.committed_le)),
-            (
-              pending.0.0,
-              (
-                pending.0.1.0,
-                place_take p.0 n.list p.0 pending.0.0 pending.0.1.1
-                    (omega arith),
-              ),
-            ),
-            safe_last n s (take p.0 n.list)
-                (λ y k. begins_trans (take_less p.0 n.committed n.list small) (s.safe y k)),
-          ),
-        ),
+      (λ le. (
+        committed_ok n s p (leb-true p.0 n.committed le) pending.0,
         due_ok n s ps pending.1,
       ))
       (λ gt. due_ok n s ps pending.1)
 
   -- requests of greater numbers stay pending
-  pub not_due_ok : (l : List A) (k : ℕ) (ps : List (ℕ × ℕ)) → AllByRecursion (IsPending events l) ps
+  pub not_due_ok : (l : List (Marked A)) (k : ℕ) (ps : List (ℕ × ℕ))
+      → AllByRecursion (IsPending events l) ps
       → AllByRecursion (IsPending events l) (not_due k ps)
   not_due_ok l k [] pending = tt
   not_due_ok l k (p ∷ ps) pending =
@@ -165,18 +169,20 @@ module _ {A : Type 0} (cs : List (List ℕ)) (lawful : IsChain cs) (events : Lis
       (λ le. not_due_ok l k ps pending.1)
       (λ gt. (pending.0, not_due_ok l k ps pending.1))
 
-  -- numbers that rise above k rise above a lesser number
-  pub rises_less : (j k : ℕ) (ps : List (ℕ × ℕ)) → j ≤ k → RisesFrom k ps → RisesFrom j ps
-  rises_less j k [] le up = tt
-  rises_less j k (p ∷ ps) le up = (omega (arith, le, up.0), up.1)
+  -- requests behind q are behind one that goes before q
+  pub rises_less : (p q : ℕ × ℕ) (ps : List (ℕ × ℕ)) → IsTrue (is_prior p q) → AreInTurnFrom q ps
+      → AreInTurnFrom p ps
+  rises_less p q [] le up = tt
+  rises_less p q (r ∷ ps) le up = (prior_trans p q r le up.0, up.1)
 
   -- the requests that stay pending stay in order
-  rises_not_due : (k j : ℕ) (ps : List (ℕ × ℕ)) → RisesFrom j ps → RisesFrom j (not_due k ps)
-  rises_not_due k j [] up = tt
-  rises_not_due k j (p ∷ ps) up =
-      cond_both (nat_le p.0 k) (not_due k ps) (p ∷ not_due k ps) (RisesFrom j)
-      (λ le. rises_not_due k j ps (rises_less j p.0 ps (omega (arith, up.0)) up.1))
-      (λ gt. (up.0, rises_not_due k p.0 ps up.1))
+  rises_not_due : (k : ℕ) (o : ℕ × ℕ) (ps : List (ℕ × ℕ)) → AreInTurnFrom o ps
+      → AreInTurnFrom o (not_due k ps)
+  rises_not_due k o [] up = tt
+  rises_not_due k o (p ∷ ps) up =
+      cond_both (nat_le p.0 k) (not_due k ps) (p ∷ not_due k ps) (AreInTurnFrom o)
+      (λ le. rises_not_due k o ps (rises_less o p ps up.0 up.1))
+      (λ gt. (up.0, rises_not_due k p ps up.1))
 
   -- replies to those who wait keep the invariant
   pub acknowledge_ok : (n : MachineState A) (fs : List (Message A)) → NodeOk cs events h lists x n
@@ -189,7 +195,7 @@ module _ {A : Type 0} (cs : List (List ℕ)) (lawful : IsChain cs) (events : Lis
           ok.pending;
       tail = ok.tail;
       snapshots = ok.snapshots;
-      rising = rises_not_due n.committed 0 n.pending ok.rising;
+      rising = rises_not_due n.committed (1, 0) n.pending ok.rising;
       resend = ok.resend;
     };
     frames = sent;

@@ -3,7 +3,7 @@ use Rattle.std.proofs.Common.{◌≡◌, inl, inr, ⊎_elim, ℕ, ◌<◌, ◌�
 use Rattle.std.proofs.Common.{true, cond, nat_lt, sym, refl, ◌∙◌, ap, subst, arith}
 use Rattle.std.specs.List.{AllByRecursion}
 use Rattle.std.proofs.lemmas.Bool.{cond_both, false≢true, cases_lt}
-use Rattle.kv_types.specs.{IsPrefix, Part, has}
+use Rattle.kv_types.specs.{IsPrefix, Marked, Part, has}
 use Rattle.configurations.specs.{at_epoch, is_tail, predecessor}
 use Rattle.chain_model.specs.declared.drop_reason.DropReason.TheVariants as reason
 use Rattle.chain_model.specs.Messages.{Ack, Forward, Message}
@@ -12,9 +12,10 @@ use Rattle.chain_model.specs.Rules.{ack, adopted, forwards, moved, notice, on_ac
 use Rattle.chain_model.specs.Rules.{acked}
 use Rattle.chain_model.specs.System.{SystemEvent}
 use Rattle.chain_model.specs.Order.{CommittedBy, WasCommitted}
-use Rattle.chain_model.specs.Retention.{RisesFrom}
+use Rattle.chain_model.specs.Retention.{AreInTurnFrom}
 use Rattle.kv_types.specs.ListsLemmas.{begins-length, every_append, take_begins}
 use Rattle.chain_model.proofs.Configuration.{IsChain, before_left, has_part, later_part}
+use Rattle.chain_model.proofs.Marks.{Taken}
 use Rattle.chain_model.proofs.Invariant.{FrameOk, IsKnown, IsPending, NodeOk, Safe, SoundNode}
 use Rattle.chain_model.proofs.Cases.{ack_cases, forward_cases, notice_cases, take_ack_cases}
 use Rattle.chain_model.proofs.Cases.{tick_cases}
@@ -33,11 +34,11 @@ greater a b P pa pb =
 
 -- `lists` are the lists of all nodes after the step.
 module _ {A : Type 0} (cs : List (List ℕ)) (lawful : IsChain cs) (events : List (SystemEvent A))
-    (h : List A) (lists : ℕ → List A) (x : ℕ) where
+    (h : List (Marked A)) (lists : ℕ → List (Marked A)) (x : ℕ) where
   -- the new committed number is the greater of the old one and the reported one
   told_sound : (n : MachineState A) (committed have : ℕ) → NodeOk cs events h lists x n
       → lists x ≡ n.list → has n.ids x ≡ true
-      → ((l : List A) × ((length l ≡ committed) × Safe lists n.ids l
+      → ((l : List (Marked A)) × ((length l ≡ committed) × Safe lists n.ids l
       × CommittedBy cs events n.epoch l))
       → SoundNode cs events h lists x (acked n committed have)
   told_sound n committed have ok here has_x tells =
@@ -91,7 +92,7 @@ module _ {A : Type 0} (cs : List (List ℕ)) (lawful : IsChain cs) (events : Lis
 
   -- a frame
   pub receive_ok : (n : MachineState A) (f : Message A) → NodeOk cs events h lists x n
-      → FrameOk cs events lists f → ((z : ℕ) → (z ≡ x → ⊥) → Part (lists z) h)
+      → FrameOk cs events lists f → ((z : ℕ) → (z ≡ x → ⊥) → Taken (lists z) h)
       → Keeps cs lawful events h lists x (receive x n f)
   receive_ok n (Forward to e p k b) ok sent parts =
       forward_cases (Keeps cs lawful events h lists x) x n to e p k b
@@ -154,8 +155,8 @@ module _ {A : Type 0} (cs : List (List ℕ)) (lawful : IsChain cs) (events : Lis
       let pending : AllByRecursion (IsPending events n.list) to.pending =
       cond_both (has ids x) n.pending [] (AllByRecursion (IsPending events n.list))
       (λ stays. ok.pending) (λ gone. tt) in
-      let rising : RisesFrom 0 to.pending =
-      cond_both (has ids x) n.pending [] (RisesFrom 0) (λ stays. ok.rising) (λ gone. tt) in
+      let rising : AreInTurnFrom (1, 0) to.pending =
+      cond_both (has ids x) n.pending [] (AreInTurnFrom (1, 0)) (λ stays. ok.rising) (λ gone. tt) in
       cond_both (is_tail ids x) (record to { committed = length n.list }) to
       (λ m. NodeOk cs events h lists x (record m { successor_has = m.committed }))
       (λ is. record {

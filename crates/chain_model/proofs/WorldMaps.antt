@@ -1,4 +1,4 @@
--- A run does not look into the batches: it goes with every map of them.
+-- A run does not look into the contents of batches: it goes with every map of them.
 use Rattle.std.proofs.Common.{◌≡◌, ℕ, List, [], ◌∷◌, length, map, option_map, Option, Some, None}
 use Rattle.std.proofs.Common.{◌==◌, nat_lt, sym, refl, ◌∙◌, ap, ap₂}
 use Rattle.std.proofs.lemmas.List.{map-append}
@@ -16,9 +16,11 @@ use Rattle.chain_model.specs.System.{SystemState}
 use Rattle.chain_model.specs.System.{after, answers, as_completed, delivered, state_after}
 use Rattle.chain_model.specs.System.{if_running}
 use Rattle.chain_model.specs.System.{nothing, outcome, outcomes, run, stops, dispatched, with_node}
-use Rattle.chain_model.specs.Maps.{answer_map, event_map, frame_map, node_map, outcome_map}
+use Rattle.chain_model.specs.Maps.{answer_map, event_map, frame_map, marked_map, node_map}
+use Rattle.chain_model.specs.Maps.{outcome_map}
 use Rattle.chain_model.specs.Maps.{place_map, reply_map, request_map, world_map}
-use Rattle.chain_model.proofs.NodeMaps.{ask_map, cond_of, map-place_of, notice_map, receive_map}
+use Rattle.chain_model.proofs.NodeMaps.{ask_map, notice_map, receive_map}
+use Rattle.chain_model.proofs.SubmitMaps.{cond_of, map-place_of}
 use Rattle.chain_model.proofs.NodeMaps.{started_map, tend_map, tick_map}
 
 module _ {A B : Type 0} (f : A → B) where
@@ -60,7 +62,7 @@ module _ {A B : Type 0} (f : A → B) where
   delivered_map w None went = refl
   delivered_map w (Some (Forward to e p k b)) went =
       takes_map w to (λ n. receive to n (Forward to e p k b))
-      (λ n. receive to n (Forward to e p k (f b))) went
+      (λ n. receive to n (Forward to e p k (marked_map f b))) went
       (λ n. receive_map f to n (Forward to e p k b))
   delivered_map w (Some (Ack to e p c have)) went =
       takes_map w to (λ n. receive to n (Ack to e p c have))

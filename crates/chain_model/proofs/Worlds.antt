@@ -3,9 +3,8 @@ use Rattle.std.proofs.Common.{◌≡◌, ℕ, List, [], ◌∷◌, ◌++◌, len
 use Rattle.std.proofs.Common.{◌∙◌}
 use Rattle.std.proofs.Common.{◌==◌, nat_lt, sym, refl, ap, subst, append_assoc, append-nil}
 use Rattle.std.proofs.Common.{eqb-true, eq-eqb, ltb-true}
-use Rattle.std.specs.List.{AllByRecursion}
 use Rattle.std.proofs.lemmas.Bool.{cond_both, cond-true, false≢true}
-use Rattle.kv_types.specs.{IsPrefix, Part, place}
+use Rattle.kv_types.specs.{IsPrefix, Marked, place}
 use Rattle.configurations.specs.{at_epoch, is_tail}
 use Rattle.chain_model.specs.declared.refusal.Refusal.TheVariants as refusal
 use Rattle.chain_model.specs.declared.refusal.Refusal.{Refusal}
@@ -26,9 +25,11 @@ use Rattle.chain_model.specs.System.{if_running}
 use Rattle.chain_model.specs.System.{nothing, outcome, run, stops, dispatched}
 use Rattle.chain_model.specs.Order.{WasCommitted}
 use Rattle.kv_types.specs.ListsLemmas.{begins_refl, every_append, every_map, every_place}
-use Rattle.kv_types.specs.ListsLemmas.{part_both, part_wider}
+use Rattle.kv_types.specs.ListsLemmas.{part_both}
 use Rattle.chain_model.proofs.Configuration.{IsChain}
-use Rattle.chain_model.proofs.Submitted.{IsHandIn, WasHandedIn, accepted, accepted_by}
+use Rattle.chain_model.proofs.Submitted.{AreAnswers, IsHandIn, WasHandedIn, accepted}
+use Rattle.chain_model.proofs.Submitted.{accepted_by, among_part, repeat_refuses_none}
+use Rattle.chain_model.proofs.Marks.{Taken, taken_wider}
 use Rattle.chain_model.proofs.Submitted.{due_refuses_none, has_refusal}
 use Rattle.chain_model.proofs.Cases.{submit_cases}
 use Rattle.chain_model.proofs.Invariant.{FrameOk, NodeOk, ReplyOk, WorldOk, frame_grows, lists_of}
@@ -49,9 +50,10 @@ TailsIn cs events w = (t : ℕ) → is_tail (at_epoch cs (w.nodes t).epoch) t �
     → WasCommitted cs events (w.nodes t).epoch (w.nodes t).list
 
 module _ {A : Type 0} (cs : List (List ℕ)) (lawful : IsChain cs) (events : List (SystemEvent A))
-    (h : List A) (w : SystemState A) (ok : WorldOk cs events h w) (r : List A) where
+    (h : List (Marked A)) (w : SystemState A) (ok : WorldOk cs events h w)
+    (r : List (Marked A)) where
   -- the lists after one node's step
-  abbrev new : ℕ → Answer A → ℕ → List A
+  abbrev new : ℕ → Answer A → ℕ → List (Marked A)
   new x a y = lists_of (put w x a) y
 
   -- all lists begin those after an answer
@@ -112,7 +114,7 @@ module _ {A : Type 0} (cs : List (List ℕ)) (lawful : IsChain cs) (events : Lis
 
   -- what answer a of node x keeps the invariant of it
   abbrev Keeps : ℕ → Answer A → Type 0
-  Keeps x a = (lists : ℕ → List A) → ((y : ℕ) → IsPrefix (lists_of w y) (lists y))
+  Keeps x a = (lists : ℕ → List (Marked A)) → ((y : ℕ) → IsPrefix (lists_of w y) (lists y))
       → ((z : ℕ) → (z ≡ x → ⊥) → lists z ≡ lists_of w z) → NodeOk cs events (h ++ r) lists x
       (w.nodes x) → Lands cs events lists x a.node → AnswerOk cs events (h ++ r) lists x a
 
@@ -178,7 +180,8 @@ module _ {A : Type 0} (cs : List (List ℕ)) (lawful : IsChain cs) (events : Lis
 
   -- a request
   pub asked_ok : (x i : ℕ) (q : Request A) (went : StepResult)
-      → ((lists : ℕ → List A) → RequestOk cs lawful events (h ++ r) lists x (w.nodes x) i q)
+      → ((lists : ℕ → List (Marked A))
+      → RequestOk cs lawful events (h ++ r) lists x (w.nodes x) i q)
       → Holds (outcome w cs (Ask x i q went))
   asked_ok x i q went given =
       running_ok x (λ n. ask x n i q) (λ n. refused n i refusal.NotRunning) went
@@ -188,7 +191,7 @@ module _ {A : Type 0} (cs : List (List ℕ)) (lawful : IsChain cs) (events : Lis
       (refuses_ok x i refusal.NotRunning)
 
   -- a submit that the node refused, however the step ended
-  refused_went_ok : (x i : ℕ) (b : A) (went : StepResult)
+  refused_went_ok : (x i : ℕ) (b : Marked A) (went : StepResult)
       → has_refusal (as_completed x (w.nodes x) (submit x (w.nodes x) i b) went).replies ≡ true
       → Holds (as_completed x (w.nodes x) (submit x (w.nodes x) i b) went)
   refused_went_ok x i b Answered is =
@@ -196,12 +199,14 @@ module _ {A : Type 0} (cs : List (List ℕ)) (lawful : IsChain cs) (events : Lis
       let m = tail_commits x (longer_for n i b) in
       submit_cases (λ a. has_refusal a.replies ≡ true → Holds (answers x a)) x n i b
       (λ why _. refuses_ok x i why)
-      (λ kept head is. absurd (false≢true (sym (due_refuses_none A m.committed m.pending) ∙ is))) is
+      (λ kept head next is.
+      absurd (false≢true (sym (due_refuses_none A m.committed m.pending) ∙ is)))
+      (λ k mark bears held is. absurd (false≢true (sym (repeat_refuses_none n i k) ∙ is))) is
   refused_went_ok x i b StoppedBefore is = absurd (false≢true is)
   refused_went_ok x i b StoppedAfter is = absurd (false≢true is)
 
   -- a submit that was refused changes no list
-  pub refused_submit_ok : (x i : ℕ) (b : A) (went : StepResult)
+  pub refused_submit_ok : (x i : ℕ) (b : Marked A) (went : StepResult)
       → has_refusal (outcome w cs (Ask x i (Submit b) went)).replies ≡ true
       → Holds (outcome w cs (Ask x i (Submit b) went))
   refused_submit_ok x i b went =
@@ -242,8 +247,8 @@ module _ {A : Type 0} (cs : List (List ℕ)) (lawful : IsChain cs) (events : Lis
       takes_ok x (λ n. receive x n f) went (receive_goes_on x (w.nodes x) f).grows.list
       (λ lists up other lifted at. receive_ok cs lawful events (h ++ r) lists x (w.nodes x) f
       lifted (frame_grows cs events (lists_of w) lists up f sent)
-      (λ z ne. subst (λ l. Part l (h ++ r)) (sym (other z ne))
-      (part_wider (lists_of w z) h r (ok.nodes z).sound.handed)) at)
+      (λ z ne. subst (λ l. Taken l (h ++ r)) (sym (other z ne))
+      (taken_wider (lists_of w z) h r (ok.nodes z).sound.handed)) at)
 
   -- a frame that is delivered
   pub delivered_ok : (p : ℕ) (went : StepResult) (o : Option (Message A)) → place w.frames p ≡ o
@@ -275,13 +280,16 @@ module _ {A : Type 0} (cs : List (List ℕ)) (lawful : IsChain cs) (events : Lis
 
 module _ {A : Type 0} (cs : List (List ℕ)) (lawful : IsChain cs) (events : List (SystemEvent A))
   where
-    -- the batches that an event submits are submitted in the run
-    abbrev EventOk : SystemEvent A → Type 0
-    EventOk e = (i : ℕ) (b : A) → IsHandIn i b e → WasHandedIn events i b
+    -- The batches that an event submits are submitted in the run. Those of h were submitted before,
+    -- and are answers where they have a mark that is submitted again.
+    pub record EventOk (h : List (Marked A)) (e : SystemEvent A) : Type 0 where
+      pub submits : (i : ℕ) (b : Marked A) → IsHandIn i b e → WasHandedIn events i b
+      pub again : (i : ℕ) (b : Marked A) → IsHandIn i b e → AreAnswers events h i b
 
     -- every event keeps the invariant
-    pub happens_ok : (h : List A) (w : SystemState A) → WorldOk cs events h w → (e : SystemEvent A)
-        → EventOk e
+    pub happens_ok : (h : List (Marked A)) (w : SystemState A) → WorldOk cs events h w
+        → (e : SystemEvent A)
+        → EventOk h e
         → TailsIn cs events (state_after cs w e) → WorldOk cs events (h ++ accepted_by cs w e)
         (state_after cs w e)
     happens_ok h w ok (Ask x i (Submit b) went) told tails =
@@ -291,9 +299,11 @@ module _ {A : Type 0} (cs : List (List ℕ)) (lawful : IsChain cs) (events : Lis
         (λ is. refused_submit_ok cs lawful events h w ok [] x i b went is tails)
         (λ not. asked_ok cs lawful events h w ok (b ∷ []) x i (Submit b) went
         (λ lists. (
-          told i b (refl, refl),
+          told.submits i b (refl, refl),
           part_both (w.nodes x).list h b
-              (ok.nodes x).sound.handed,
+              (ok.nodes x).sound.handed.part,
+          λ a m is. told.again i b (refl, refl) a m
+              (among_part a (w.nodes x).list h (ok.nodes x).sound.handed.part is),
         )) tails)
     happens_ok h w ok (Ask x i (Read at) went) told tails = asked_ok cs lawful events h w ok
         (accepted_by cs w (Ask x i (Read at) went)) x i (Read at) went (λ lists. tt) tails
@@ -321,14 +331,18 @@ module _ {A : Type 0} (cs : List (List ℕ)) (lawful : IsChain cs) (events : Lis
     Along [] w = Unit {0}
     Along (e ∷ es) w = TailsIn cs events (state_after cs w e) × Along es (state_after cs w e)
 
+    -- .. and of every event, where h was accepted before
+    abbrev pub Told : List (SystemEvent A) → List (Marked A) → SystemState A → Type 0
+    Told [] h w = Unit {0}
+    Told (e ∷ es) h w = EventOk h e × Told es (h ++ accepted_by cs w e) (state_after cs w e)
+
     -- every run keeps the invariant
-    pub run_ok : (es : List (SystemEvent A)) → AllByRecursion EventOk es → (h : List A)
-        (w : SystemState A)
-        → Along es w → WorldOk cs events h w
+    pub run_ok : (es : List (SystemEvent A)) (h : List (Marked A)) (w : SystemState A)
+        → Told es h w → Along es w → WorldOk cs events h w
         → WorldOk cs events (h ++ accepted cs es w) (run cs es w)
-    run_ok [] told h w along ok = subst (λ l. WorldOk cs events l w) (sym (append-nil h)) ok
-    run_ok (e ∷ es) told h w along ok =
+    run_ok [] h w told along ok = subst (λ l. WorldOk cs events l w) (sym (append-nil h)) ok
+    run_ok (e ∷ es) h w told along ok =
         subst (λ l. WorldOk cs events l (run cs es (state_after cs w e)))
         (append_assoc h (accepted_by cs w e) (accepted cs es (state_after cs w e)))
-        (run_ok es told.1 (h ++ accepted_by cs w e) (state_after cs w e) along.1
+        (run_ok es (h ++ accepted_by cs w e) (state_after cs w e) told.1 along.1
         (happens_ok h w ok e told.0 along.0))

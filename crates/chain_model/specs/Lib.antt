@@ -2,8 +2,10 @@ pub mod Messages
 pub mod Requests
 pub mod Machine
 pub mod Rules
+pub mod RulesLemmas
 pub mod System
 pub mod Headline
+pub mod Once
 pub mod Outcomes
 pub mod Order
 pub mod Freshness
@@ -14,12 +16,15 @@ pub mod Trace
 pub mod WorkedRuns
 pub mod WorkedSnapshots
 pub mod WorkedDrops
+pub mod WorkedMarks
 -- What crates above name.
-pub use Rattle.chain_model.specs.Headline.{OneList, ResponseAgrees, batches, numbered, submitted}
+pub use Rattle.chain_model.specs.Headline.{IsRepeat, OneList, ResponseAgrees, batches, numbered}
+pub use Rattle.chain_model.specs.Headline.{submitted}
+pub use Rattle.chain_model.specs.Once.{ExactlyOnce, HasMarksOnce}
 pub use Rattle.chain_model.specs.Machine.{Answer, MachineState, created, dropped_for, due, not_due}
 pub use Rattle.chain_model.specs.Machine.{refused, silent, started, stopped}
 pub use Rattle.chain_model.specs.Messages.{Ack, Forward, Message, addressee}
-pub use Rattle.chain_model.specs.Order.{ForwardIsTrue, InOrder}
+pub use Rattle.chain_model.specs.Order.{ForwardIsTrue, InOrder, MarksRise}
 pub use Rattle.chain_model.specs.Outcomes.{RunIsOutcomes}
 pub use Rattle.chain_model.specs.Requests.{Closed, Committed, Opened, Refused, Request, Response}
 pub use Rattle.chain_model.specs.Requests.{Shows}

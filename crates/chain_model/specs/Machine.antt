@@ -2,6 +2,7 @@
 -- profile.
 use Rattle.std.specs.Prelude.{ℕ, List, [], ◌∷◌, length, Option, Some, None, Bool, true, false}
 use Rattle.std.specs.Prelude.{if◌then◌else◌, nat_le}
+use Rattle.kv_types.specs.{Marked}
 use Rattle.configurations.specs.{is_tail}
 use Rattle.chain_model.specs.declared.refusal.Refusal.{Refusal}
 use Rattle.chain_model.specs.declared.drop_reason.DropReason.{DropReason}
@@ -12,7 +13,7 @@ use Rattle.chain_model.specs.Requests.{Response, Committed, Refused}
 -- chain (van Renesse and Schneider 2004, section 3; the numbers are this store's profile).
 pub record MachineState (A : Type 0) : Type 0 where
   -- every batch that it has accepted or appended
-  pub list : List A
+  pub list : List (Marked A)
   -- the newest epoch that was reported to it, and the configuration of that epoch
   pub epoch : ℕ
   pub ids : List ℕ

@@ -1,7 +1,8 @@
--- The machine at another type: each batch replaced by its image. A step does not inspect batches,
--- so a run commutes with every such map. So the theorems of runs over batches with places hold of
--- runs over plain batches. Definitions without a source are this store's profile.
+-- The machine at another type: each content replaced by its image. A step inspects marks, but no
+-- content, so a run commutes with every such map. So the theorems of runs over contents with places
+-- hold of runs over plain contents. Definitions without a source are this store's profile.
 use Rattle.std.specs.Prelude.{◌≡◌, ℕ, List, map, Option, Some, None}
+use Rattle.kv_types.specs.{Marked}
 use Rattle.configurations.specs.{Configurations}
 use Rattle.chain_model.specs.Messages.{Message, Forward, Ack}
 use Rattle.chain_model.specs.Requests.{Request, Submit, Read, Open, Close, Response, Committed}
@@ -11,10 +12,14 @@ use Rattle.chain_model.specs.System.{SystemEvent, Ask, Tick, Tend, Notice, Deliv
 use Rattle.chain_model.specs.System.{Lost}
 use Rattle.chain_model.specs.System.{Outcome, SystemState, reached, outcomes, first_state}
 
+-- a batch with the image of its content
+abbrev pub marked_map : {A B : Type 0} → (A → B) → Marked A → Marked B
+marked_map f batch = record { mark = batch.mark; content = f batch.content }
+
 -- the image of a node
 abbrev pub node_map : {A B : Type 0} → (A → B) → MachineState A → MachineState B
 node_map f n = record {
-  list = map f n.list;
+  list = map (marked_map f) n.list;
   epoch = n.epoch;
   ids = n.ids;
   committed = n.committed;
@@ -28,20 +33,20 @@ node_map f n = record {
 
 -- the image of a frame
 abbrev pub frame_map : {A B : Type 0} → (A → B) → Message A → Message B
-frame_map f (Forward to e from k b) = Forward to e from k (f b)
+frame_map f (Forward to e from k b) = Forward to e from k (marked_map f b)
 frame_map f (Ack to e from c have) = Ack to e from c have
 
 -- the image of a reply
 abbrev pub reply_map : {A B : Type 0} → (A → B) → Response A → Response B
 reply_map f (Committed i n) = Committed i n
-reply_map f (Shows i s l) = Shows i s (map f l)
+reply_map f (Shows i s l) = Shows i s (map (marked_map f) l)
 reply_map f (Opened i s) = Opened i s
 reply_map f (Closed i s) = Closed i s
 reply_map f (Refused i why) = Refused i why
 
 -- the image of a request
 abbrev pub request_map : {A B : Type 0} → (A → B) → Request A → Request B
-request_map f (Submit b) = Submit (f b)
+request_map f (Submit b) = Submit (marked_map f b)
 request_map f (Read at) = Read at
 request_map f (Open at) = Open at
 request_map f (Close s) = Close s

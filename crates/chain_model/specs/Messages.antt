@@ -1,5 +1,6 @@
--- The frames between nodes. The type A is the unit of replication: a batch, or a batch with its
--- event's place. Definitions without a source are this store's profile.
+-- The frames between nodes. The type A is that of a batch's content: its edits, or its edits with
+-- its event's place. Definitions without a source are this store's profile.
+use Rattle.kv_types.specs.{Marked}
 use Rattle.std.specs.Prelude.{ℕ}
 
 -- A Forward has a batch for the successor (van Renesse and Schneider 2004, section 3, the update
@@ -7,7 +8,7 @@ use Rattle.std.specs.Prelude.{ℕ}
 -- committed, and how many it has (there, the acknowledgement). The epoch and the numbers are this
 -- store's profile.
 pub data Message (A : Type 0) : Type 0 where
-  Forward : (to epoch from number : ℕ) → (batch : A) → Message A
+  Forward : (to epoch from number : ℕ) → (batch : Marked A) → Message A
   Ack : (to epoch from committed have : ℕ) → Message A
 
 -- the node that the frame is addressed to

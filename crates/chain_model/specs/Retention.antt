@@ -1,16 +1,18 @@
 -- Trimming of logs keeps every batch that may still be needed. Definitions without a source are
 -- this store's profile.
-use Rattle.std.specs.Prelude.{◌≡◌, ℕ, ◌<◌, ◌≤◌, List, [], ◌∷◌, length, true, false}
+use Rattle.std.specs.Prelude.{◌≡◌, ℕ, ◌≤◌, List, [], ◌∷◌, length, true, false, IsTrue}
 use Rattle.configurations.specs.{Configurations, is_tail, at_epoch}
 use Rattle.kv_types.specs.{has}
 use Rattle.kv_types.specs.Snapshots.{least}
 use Rattle.chain_model.specs.Machine.{MachineState}
+use Rattle.chain_model.specs.Rules.{is_prior}
 use Rattle.chain_model.specs.System.{SystemEvent, node_of}
 
--- the numbers of these pending requests are above k, and rise
-abbrev pub RisesFrom : ℕ → List (ℕ × ℕ) → Type 0
-RisesFrom k [] = Unit {0}
-RisesFrom k (p ∷ ps) = (k < p.0) × RisesFrom p.0 ps
+-- these pending requests are in turn behind p: in order of number, and those of one number in order
+-- of request
+abbrev pub AreInTurnFrom : ℕ × ℕ → List (ℕ × ℕ) → Type 0
+AreInTurnFrom p [] = Unit {0}
+AreInTurnFrom p (q ∷ rest) = IsTrue (is_prior p q) × AreInTurnFrom q rest
 
 -- the order of a node's numbers
 pub record IsOrdered {A : Type 0} (n : MachineState A) : Type 0 where
@@ -19,8 +21,9 @@ pub record IsOrdered {A : Type 0} (n : MachineState A) : Type 0 where
   pub committed : n.committed ≤ length n.list
   -- the floor is at most the number that it may rise to, so it never falls
   pub readable : n.floor ≤ least n.committed n.snapshots
-  -- requests are pending in order of number, so they are replied to in that order
-  pub pending : RisesFrom 0 n.pending
+  -- requests are pending in order of number from 1 on, and those of one number in order of request,
+  -- so they are replied to in that order
+  pub pending : AreInTurnFrom (1, 0) n.pending
 
 -- Every node that a node's epoch keeps has the batches that this node has trimmed. The node knows
 -- so of its successor (van Renesse and Schneider 2004, section 3; floor and kept number are this

@@ -3,13 +3,15 @@
 use Rattle.std.specs.Prelude.{ℕ, zero, suc, ◌-◌, ◌^◌, List, [], ◌∷◌, ◌++◌, length, take, min, max}
 use Rattle.std.specs.Prelude.{Option, Some, None, Bool, true, false, ◌&&◌, not, if◌then◌else◌}
 use Rattle.std.specs.Prelude.{◌==◌, nat_lt, nat_le}
-use Rattle.kv_types.specs.{place, has}
+use Rattle.kv_types.specs.{Marked, has, mark_held, place}
+use Rattle.kv_types.specs.declared.mark.Mark.{Mark}
 use Rattle.configurations.specs.{is_head, is_tail, predecessor, successor}
 use Rattle.configurations.specs.NodeLists.{leaves_out}
 use Rattle.chain_model.specs.declared.refusal.Refusal.TheVariants as refusal
 use Rattle.chain_model.specs.declared.drop_reason.DropReason.TheVariants as reason
 use Rattle.chain_model.specs.Messages.{Message, Forward, Ack}
 use Rattle.chain_model.specs.Requests.{Request, Submit, Read, Open, Close, Shows, Opened, Closed}
+use Rattle.chain_model.specs.Requests.{Committed}
 use Rattle.chain_model.specs.Machine.{MachineState, Answer, silent, dropped_for, refused, replied}
 use Rattle.chain_model.specs.Machine.{due}
 use Rattle.kv_types.specs.Snapshots.{is_open, without, least}
@@ -22,7 +24,7 @@ is_some_of (Some y) x = y == x
 
 -- the frame with batch k for the successor, if both exist (van Renesse and Schneider 2004, section
 -- 3)
-abbrev pub forward_to : {A : Type 0} → Option ℕ → ℕ → MachineState A → ℕ → Option A → List
+abbrev pub forward_to : {A : Type 0} → Option ℕ → ℕ → MachineState A → ℕ → Option (Marked A) → List
     (Message A)
 forward_to None x n k batch = []
 forward_to (Some s) x n k None = []
@@ -67,11 +69,28 @@ unreadable n = dropped_for n reason.Unreadable
 
 -- the head with one more batch, whose acknowledgement request i awaits (van Renesse and Schneider
 -- 2004, section 3)
-abbrev pub longer_for : {A : Type 0} → MachineState A → ℕ → A → MachineState A
+abbrev pub longer_for : {A : Type 0} → MachineState A → ℕ → Marked A → MachineState A
 longer_for n i batch = record n {
   list = n.list ++ batch ∷ [];
   pending = n.pending ++ (suc (length n.list), i) ∷ [];
 }
+
+-- a pending request is prior to another: it has the lesser number, or the same and no greater
+-- request
+abbrev pub is_prior : ℕ × ℕ → ℕ × ℕ → Bool
+is_prior p q = if p.0 == q.0 then nat_le p.1 q.1 else nat_lt p.0 q.0
+
+-- one more request among those that are pending, in order of number and then of request
+abbrev pub queued : ℕ × ℕ → List (ℕ × ℕ) → List (ℕ × ℕ)
+queued p [] = p ∷ []
+queued p (q ∷ rest) = if is_prior q p then q ∷ queued p rest else p ∷ q ∷ rest
+
+-- Request i submits again the batch that has number k. Nothing is appended or sent, and it is
+-- acknowledged once that batch is committed.
+abbrev pub repeat : {A : Type 0} → MachineState A → ℕ → ℕ → Answer A
+repeat n i k =
+    if nat_le k n.committed then replied n (Committed i k)
+    else silent (record n { pending = queued (k, i) n.pending })
 
 -- the node after its successor's report, if that exceeds what it knew (van Renesse and Schneider
 -- 2004, section 3; the numbers are this store's profile)
@@ -120,23 +139,42 @@ module _ {A : Type 0} (x : ℕ) where
 
   -- The head accepts a batch and forwards it. A head that is the tail too commits and acknowledges
   -- it (van Renesse and Schneider 2004, section 3).
-  abbrev pub accept : MachineState A → ℕ → A → Answer A
+  abbrev pub accept : MachineState A → ℕ → Marked A → Answer A
   accept n i batch =
       let m = tail_commits (longer_for n i batch) in
       acknowledge m (forward m (suc (length n.list)))
 
-  -- a batch is submitted by a client (van Renesse and Schneider 2004, section 3; the refusals are
-  -- this store's profile)
-  abbrev pub submit : MachineState A → ℕ → A → Answer A
+  -- the head accepts a batch if a number is left for it
+  abbrev pub accept_if_room : MachineState A → ℕ → Marked A → Answer A
+  accept_if_room n i batch =
+      if length n.list == 2 ^ 63 - 1 then refused n i refusal.Exhausted else accept n i batch
+
+  -- the head receives a batch of this request number, where it holds this mark for the client
+  abbrev pub submit_after : MachineState A → ℕ → Marked A → ℕ → Option (ℕ × ℕ) → Answer A
+  submit_after n i batch request_number None = accept_if_room n i batch
+  submit_after n i batch request_number (Some held) =
+      if nat_lt held.0 request_number then accept_if_room n i batch
+      else if held.0 == request_number then repeat n i held.1
+      else refused n i refusal.OldRequest
+
+  -- The head receives a batch that bears this mark, or none. Of a client's marked batches it
+  -- accepts only those of greater requests than it has.
+  abbrev pub submit_marked : MachineState A → ℕ → Marked A → Option Mark → Answer A
+  submit_marked n i batch None = accept_if_room n i batch
+  submit_marked n i batch (Some mark) =
+      submit_after n i batch mark.request (mark_held n.list mark.client)
+
+  -- a batch is submitted by a client (van Renesse and Schneider 2004, section 3; the refusals and
+  -- the marks are this store's profile)
+  abbrev pub submit : MachineState A → ℕ → Marked A → Answer A
   submit n i batch =
       if not (has n.ids x) then refused n i refusal.Removed
       else if not (is_head n.ids x) then refused n i refusal.NotHead
-      else if length n.list == 2 ^ 63 - 1 then refused n i refusal.Exhausted
-      else accept n i batch
+      else submit_marked n i batch batch.mark
 
   -- A node appends batch k and forwards it. A tail commits and acknowledges it (van Renesse and
   -- Schneider 2004, section 3).
-  abbrev pub append : MachineState A → ℕ → A → Answer A
+  abbrev pub append : MachineState A → ℕ → Marked A → Answer A
   append n k batch =
       let m = tail_commits (record n { list = n.list ++ batch ∷ [] }) in
       record {
@@ -154,7 +192,7 @@ module _ {A : Type 0} (x : ℕ) where
 
   -- A node appends the next batch, and no other (van Renesse and Schneider 2004, section 3; links
   -- that lose, repeat and reorder are this store's profile).
-  abbrev pub receive_forward : MachineState A → ℕ → A → Answer A
+  abbrev pub receive_forward : MachineState A → ℕ → Marked A → Answer A
   receive_forward n k batch = if k == suc (length n.list) then append n k batch else ack_duplicate n
 
   -- A node applies its successor's report, and reports to its predecessor if more is committed than

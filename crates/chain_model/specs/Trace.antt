@@ -2,6 +2,7 @@
 -- Definitions without a source are this store's profile.
 use Rattle.std.specs.Prelude.{ℕ, List, [], ◌∷◌, ◌++◌, length, map, Option, Some, None, Bool, true}
 use Rattle.std.specs.Prelude.{false, not, if◌then◌else◌}
+use Rattle.kv_types.specs.{Marked}
 use Rattle.configurations.specs.{Configurations}
 use Rattle.chain_model.specs.declared.refusal.Refusal.{Refusal}
 use Rattle.chain_model.specs.declared.drop_reason.DropReason.{DropReason}
@@ -17,7 +18,7 @@ pub data TraceLine (A : Type 0) : Type 0 where
   Forwards : (from to epoch number : ℕ) → TraceLine A
   Acks : (from to epoch committed have : ℕ) → TraceLine A
   Commits : (request number : ℕ) → TraceLine A
-  Reads : (request number : ℕ) → (batches : List A) → TraceLine A
+  Reads : (request number : ℕ) → (contents : List A) → TraceLine A
   Opens : (request number : ℕ) → TraceLine A
   Closes : (request number : ℕ) → TraceLine A
   Refuses : (request : ℕ) → (why : Refusal) → TraceLine A
@@ -34,7 +35,7 @@ message_line (Ack to epoch from committed have) = Acks from to epoch committed h
 -- the line of a reply
 abbrev pub response_line : {A : Type 0} → Response A → TraceLine A
 response_line (Committed i n) = Commits i n
-response_line (Shows i n l) = Reads i n l
+response_line (Shows i n l) = Reads i n (map (λ (b : Marked _). b.content) l)
 response_line (Opened i n) = Opens i n
 response_line (Closed i n) = Closes i n
 response_line (Refused i why) = Refuses i why

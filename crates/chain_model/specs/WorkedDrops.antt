@@ -2,6 +2,7 @@
 -- first reason that applies. Batches are numbers here. Definitions without a source are this
 -- store's profile.
 use Rattle.std.specs.Prelude.{◌≡◌, ℕ, zero, suc, List, [], ◌∷◌, Some}
+use Rattle.kv_types.specs.{unmarked}
 use Rattle.chain_model.specs.declared.drop_reason.DropReason.TheVariants as reason
 use Rattle.chain_model.specs.declared.refusal.Refusal.TheVariants as refusal
 use Rattle.chain_model.specs.Messages.{Forward, Ack}
@@ -33,7 +34,7 @@ pub record WorkedDrops : Type 0 where
   -- the reported committed number is greater than the reported length
   pub too_early : receive 1 first (Ack 1 0 2 1 0) ≡ dropped_for first reason.BadAck
   pub stranger_tells : receive 1 first (Ack 1 0 3 0 0) ≡ dropped_for first reason.NotSuccessor
-  pub stranger_sends : receive 1 first (Forward 1 0 2 1 7)
+  pub stranger_sends : receive 1 first (Forward 1 0 2 1 (unmarked 7))
       ≡ dropped_for first reason.NotPredecessor
   pub later_epoch : receive 1 first (Ack 1 1 2 0 0) ≡ dropped_for first reason.OtherEpoch
   pub nobody_left_out : notice 1 first 1 (1 ∷ 2 ∷ []) ≡ dropped_for first reason.BadNotice
@@ -43,7 +44,7 @@ pub record WorkedDrops : Type 0 where
   pub no_frame : unreadable first ≡ dropped_for first reason.Unreadable
   -- two reasons apply, and the answer has the one that is tested first
   pub old_and_bad : notice 1 first 0 (1 ∷ 3 ∷ []) ≡ dropped_for first reason.OldNotice
-  pub removed_and_no_head : submit 9 first 5 7 ≡ refused first 5 refusal.Removed
+  pub removed_and_no_head : submit 9 first 5 (unmarked 7) ≡ refused first 5 refusal.Removed
   pub removed_and_later_epoch : receive 9 first (Ack 9 1 2 0 0) ≡ dropped_for first reason.Removed
   pub later_epoch_of_stranger : receive 1 first (Ack 1 1 3 0 0)
       ≡ dropped_for first reason.OtherEpoch

@@ -1,6 +1,7 @@
 -- Worked runs, with each event's frames, replies and drops. Batches are numbers here. Definitions
 -- without a source are this store's profile.
 use Rattle.std.specs.Prelude.{◌≡◌, ℕ, zero, suc, List, [], ◌∷◌, ◌++◌, take, Some, None, true}
+use Rattle.kv_types.specs.{unmarked}
 use Rattle.configurations.specs.{Configurations}
 use Rattle.chain_model.specs.declared.refusal.Refusal.TheVariants as refusal
 use Rattle.chain_model.specs.declared.drop_reason.DropReason.TheVariants as reason
@@ -37,7 +38,7 @@ pending_after cs run x = (node_of cs (events_of run) x).pending
 -- 2 acknowledges again.
 abbrev pub a_repeated_forward_is_dropped : Run
 a_repeated_forward_is_dropped =
-    (Ask 1 1 (Submit 101) Answered, Forwards 1 2 0 1 ∷ []) ∷
+    (Ask 1 1 (Submit (unmarked 101)) Answered, Forwards 1 2 0 1 ∷ []) ∷
     (Deliver 1 Answered, Forwards 2 3 0 1 ∷ []) ∷
     (Deliver 1 Answered, Drops reason.OtherNumber ∷ Acks 2 1 0 0 1 ∷ []) ∷
     (Deliver 2 Answered, Acks 3 2 0 1 1 ∷ []) ∷
@@ -49,8 +50,8 @@ a_repeated_forward_is_dropped =
 -- again. The acknowledgements arrive in the wrong order, and the older one changes nothing.
 abbrev pub a_lost_forward_is_sent_again : Run
 a_lost_forward_is_sent_again =
-    (Ask 1 1 (Submit 101) Answered, Forwards 1 2 0 1 ∷ []) ∷
-    (Ask 1 2 (Submit 102) Answered, Forwards 1 2 0 2 ∷ []) ∷
+    (Ask 1 1 (Submit (unmarked 101)) Answered, Forwards 1 2 0 1 ∷ []) ∷
+    (Ask 1 2 (Submit (unmarked 102)) Answered, Forwards 1 2 0 2 ∷ []) ∷
     (Deliver 2 Answered, Drops reason.OtherNumber ∷ Acks 2 1 0 0 0 ∷ []) ∷
     (Tick 1 Answered, Forwards 1 2 0 1 ∷ Forwards 1 2 0 2 ∷ []) ∷
     (Deliver 4 Answered, Acks 2 1 0 1 1 ∷ []) ∷
@@ -64,31 +65,31 @@ a_lost_forward_is_sent_again =
 -- the head, so it accepts no batch of a client.
 abbrev pub only_what_is_committed_is_read : Run
 only_what_is_committed_is_read =
-    (Ask 1 1 (Submit 101) Answered, Forwards 1 2 0 1 ∷ []) ∷
+    (Ask 1 1 (Submit (unmarked 101)) Answered, Forwards 1 2 0 1 ∷ []) ∷
     (Deliver 1 Answered, Forwards 2 3 0 1 ∷ []) ∷
     (Deliver 2 Answered, Acks 3 2 0 1 1 ∷ []) ∷
     (Deliver 3 Answered, Acks 2 1 0 1 1 ∷ []) ∷
     (Deliver 4 Answered, Commits 1 1 ∷ []) ∷
-    (Ask 1 6 (Submit 106) Answered, Forwards 1 2 0 2 ∷ []) ∷
+    (Ask 1 6 (Submit (unmarked 106)) Answered, Forwards 1 2 0 2 ∷ []) ∷
     (Deliver 5 Answered, Forwards 2 3 0 2 ∷ []) ∷
     (Ask 2 8 (Read (Some 2)) Answered, Refuses 8 refusal.NotCommitted ∷ []) ∷
     (Ask 2 9 (Read None) Answered, Reads 9 1 (101 ∷ []) ∷ []) ∷
-    (Ask 2 10 (Submit 110) Answered, Refuses 10 refusal.NotHead ∷ []) ∷
+    (Ask 2 10 (Submit (unmarked 110)) Answered, Refuses 10 refusal.NotHead ∷ []) ∷
     []
 
 -- The head is removed and does not know it. Its successor accepts none of its batches, and the new
 -- head proceeds. The old head can still read the committed batches.
 abbrev pub an_unaware_head_commits_nothing : Run
 an_unaware_head_commits_nothing =
-    (Ask 1 1 (Submit 101) Answered, Forwards 1 2 0 1 ∷ []) ∷
+    (Ask 1 1 (Submit (unmarked 101)) Answered, Forwards 1 2 0 1 ∷ []) ∷
     (Deliver 1 Answered, Forwards 2 3 0 1 ∷ []) ∷
     (Deliver 2 Answered, Acks 3 2 0 1 1 ∷ []) ∷
     (Deliver 3 Answered, Acks 2 1 0 1 1 ∷ []) ∷
     (Deliver 4 Answered, Commits 1 1 ∷ []) ∷
     (Notice 2 1 Answered, Adopts 2 1 ∷ []) ∷
     (Notice 3 1 Answered, Adopts 3 1 ∷ Acks 3 2 1 1 1 ∷ []) ∷
-    (Ask 1 8 (Submit 108) Answered, Forwards 1 2 0 2 ∷ []) ∷
-    (Ask 2 9 (Submit 109) Answered, Forwards 2 3 1 2 ∷ []) ∷
+    (Ask 1 8 (Submit (unmarked 108)) Answered, Forwards 1 2 0 2 ∷ []) ∷
+    (Ask 2 9 (Submit (unmarked 109)) Answered, Forwards 2 3 1 2 ∷ []) ∷
     (Deliver 5 Answered, []) ∷
     (Deliver 6 Answered, Drops reason.OtherEpoch ∷ []) ∷
     (Deliver 7 Answered, Acks 3 2 1 2 2 ∷ []) ∷
@@ -101,12 +102,12 @@ an_unaware_head_commits_nothing =
 -- tail.
 abbrev pub a_middle_node_is_left_out : Run
 a_middle_node_is_left_out =
-    (Ask 1 1 (Submit 101) Answered, Forwards 1 2 0 1 ∷ []) ∷
+    (Ask 1 1 (Submit (unmarked 101)) Answered, Forwards 1 2 0 1 ∷ []) ∷
     (Deliver 1 Answered, Forwards 2 3 0 1 ∷ []) ∷
     (Deliver 2 Answered, Acks 3 2 0 1 1 ∷ []) ∷
     (Deliver 3 Answered, Acks 2 1 0 1 1 ∷ []) ∷
     (Deliver 4 Answered, Commits 1 1 ∷ []) ∷
-    (Ask 1 6 (Submit 106) Answered, Forwards 1 2 0 2 ∷ []) ∷
+    (Ask 1 6 (Submit (unmarked 106)) Answered, Forwards 1 2 0 2 ∷ []) ∷
     (Deliver 5 Answered, Forwards 2 3 0 2 ∷ []) ∷
     (Stop 2, Stops 2 ∷ []) ∷
     (Notice 1 1 Answered, Adopts 1 1 ∷ []) ∷
@@ -121,7 +122,7 @@ a_middle_node_is_left_out =
 -- The tail is removed. The node before it becomes the tail, and commits its list.
 abbrev pub a_new_tail_commits : Run
 a_new_tail_commits =
-    (Ask 1 1 (Submit 101) Answered, Forwards 1 2 0 1 ∷ []) ∷
+    (Ask 1 1 (Submit (unmarked 101)) Answered, Forwards 1 2 0 1 ∷ []) ∷
     (Deliver 1 Answered, Forwards 2 3 0 1 ∷ []) ∷
     (Notice 1 1 Answered, Adopts 1 1 ∷ []) ∷
     (Notice 2 1 Answered, Adopts 2 1 ∷ Acks 2 1 1 1 1 ∷ []) ∷
@@ -141,7 +142,7 @@ epochs_are_skipped =
 -- state. A frame that was never sent is no event of any node.
 abbrev pub a_stopped_node_says_so : Run
 a_stopped_node_says_so =
-    (Ask 1 1 (Submit 101) Answered, Commits 1 1 ∷ []) ∷
+    (Ask 1 1 (Submit (unmarked 101)) Answered, Commits 1 1 ∷ []) ∷
     (Start 1 Answered, Drops reason.Running ∷ []) ∷
     (Stop 1, Stops 1 ∷ []) ∷
     (Stop 1, Drops reason.NotRunning ∷ []) ∷
@@ -152,10 +153,10 @@ a_stopped_node_says_so =
     (Deliver 1 Answered, []) ∷
     (Start 1 Answered, Starts 1 0 1 1 ∷ []) ∷
     (Ask 1 11 (Read None) Answered, Reads 11 1 (101 ∷ []) ∷ []) ∷
-    (Ask 1 12 (Submit 112) StoppedAfter, Stops 1 ∷ []) ∷
+    (Ask 1 12 (Submit (unmarked 112)) StoppedAfter, Stops 1 ∷ []) ∷
     (Start 1 StoppedBefore, Stops 1 ∷ []) ∷
     (Start 1 Answered, Starts 1 0 2 2 ∷ []) ∷
-    (Ask 1 15 (Submit 115) StoppedBefore, Stops 1 ∷ []) ∷
+    (Ask 1 15 (Submit (unmarked 115)) StoppedBefore, Stops 1 ∷ []) ∷
     (Start 1 Answered, Starts 1 0 2 2 ∷ []) ∷
     []
 
@@ -163,11 +164,11 @@ a_stopped_node_says_so =
 -- floor to be committed and has no snapshots, and a tick sends again from there.
 abbrev pub the_floor_waits_for_snapshots : Run
 the_floor_waits_for_snapshots =
-    (Ask 1 1 (Submit 101) Answered, Forwards 1 2 0 1 ∷ []) ∷
+    (Ask 1 1 (Submit (unmarked 101)) Answered, Forwards 1 2 0 1 ∷ []) ∷
     (Deliver 1 Answered, Acks 2 1 0 1 1 ∷ []) ∷
     (Deliver 2 Answered, Commits 1 1 ∷ []) ∷
     (Ask 1 4 (Open None) Answered, Opens 4 1 ∷ []) ∷
-    (Ask 1 5 (Submit 105) Answered, Forwards 1 2 0 2 ∷ []) ∷
+    (Ask 1 5 (Submit (unmarked 105)) Answered, Forwards 1 2 0 2 ∷ []) ∷
     (Deliver 3 Answered, Acks 2 1 0 2 2 ∷ []) ∷
     (Deliver 4 Answered, Commits 5 2 ∷ []) ∷
     (Tend 1 true 9 Answered, []) ∷
@@ -183,7 +184,7 @@ the_floor_waits_for_snapshots =
 -- successor has, so a tick sends from the committed number on.
 abbrev pub a_new_successor_is_sent_all : Run
 a_new_successor_is_sent_all =
-    (Ask 1 1 (Submit 101) Answered, Forwards 1 2 0 1 ∷ []) ∷
+    (Ask 1 1 (Submit (unmarked 101)) Answered, Forwards 1 2 0 1 ∷ []) ∷
     (Deliver 1 Answered, Forwards 2 3 0 1 ∷ []) ∷
     (Deliver 1 Answered, Drops reason.OtherNumber ∷ Acks 2 1 0 0 1 ∷ []) ∷
     (Deliver 3 Answered, []) ∷
@@ -199,7 +200,7 @@ a_new_successor_is_sent_all =
 -- no client is answered.
 abbrev pub a_removed_head_answers_nobody : Run
 a_removed_head_answers_nobody =
-    (Ask 1 1 (Submit 101) Answered, Forwards 1 2 0 1 ∷ []) ∷
+    (Ask 1 1 (Submit (unmarked 101)) Answered, Forwards 1 2 0 1 ∷ []) ∷
     (Notice 1 1 Answered, Adopts 1 1 ∷ []) ∷
     (Tick 1 Answered, Drops reason.Removed ∷ []) ∷
     (Deliver 1 Answered, Forwards 2 3 0 1 ∷ []) ∷
@@ -221,7 +222,7 @@ a_removed_node_adopts_on =
 abbrev pub submits_from : ℕ → ℕ → Run
 submits_from i zero = []
 submits_from i (suc more) =
-    (Ask 1 i (Submit i) Answered, Forwards 1 2 0 i ∷ []) ∷ submits_from (suc i) more
+    (Ask 1 i (Submit (unmarked i)) Answered, Forwards 1 2 0 i ∷ []) ∷ submits_from (suc i) more
 
 -- the lines of so many frames from node 1 to node 2, with batches k and on
 abbrev pub forwards_from : ℕ → ℕ → List (TraceLine ℕ)
@@ -243,7 +244,7 @@ a_tick_sends_16 =
 -- on where more is committed, and no other. A tick of the tail acknowledges again.
 abbrev pub only_news_is_passed_on : Run
 only_news_is_passed_on =
-    (Ask 1 1 (Submit 101) Answered, Forwards 1 2 0 1 ∷ []) ∷
+    (Ask 1 1 (Submit (unmarked 101)) Answered, Forwards 1 2 0 1 ∷ []) ∷
     (Deliver 1 Answered, Forwards 2 3 0 1 ∷ []) ∷
     (Deliver 2 Answered, Forwards 3 4 0 1 ∷ []) ∷
     (Tick 3 Answered, Forwards 3 4 0 1 ∷ Acks 3 2 0 0 1 ∷ []) ∷
@@ -259,7 +260,7 @@ only_news_is_passed_on =
 -- Two nodes. The head stops before its batch is committed, and answers nobody after its start.
 abbrev pub a_started_node_answers_nobody : Run
 a_started_node_answers_nobody =
-    (Ask 1 1 (Submit 101) Answered, Forwards 1 2 0 1 ∷ []) ∷
+    (Ask 1 1 (Submit (unmarked 101)) Answered, Forwards 1 2 0 1 ∷ []) ∷
     (Stop 1, Stops 1 ∷ []) ∷
     (Start 1 Answered, Starts 1 0 1 0 ∷ []) ∷
     (Deliver 1 Answered, Acks 2 1 0 1 1 ∷ []) ∷
@@ -270,16 +271,16 @@ a_started_node_answers_nobody =
 -- notice of an epoch beyond the list does nothing.
 abbrev pub an_adoption_answers : Run
 an_adoption_answers =
-    (Ask 1 1 (Submit 101) Answered, Forwards 1 2 0 1 ∷ []) ∷
+    (Ask 1 1 (Submit (unmarked 101)) Answered, Forwards 1 2 0 1 ∷ []) ∷
     (Notice 1 1 Answered, Adopts 1 1 ∷ Commits 1 1 ∷ []) ∷
     (Notice 1 2 Answered, []) ∷
-    (Ask 1 4 (Submit 104) Answered, Commits 4 2 ∷ []) ∷
+    (Ask 1 4 (Submit (unmarked 104)) Answered, Commits 4 2 ∷ []) ∷
     []
 
 -- Node 1 is removed with one committed batch. Its floor rises all the same.
 abbrev pub a_removed_node_tends : Run
 a_removed_node_tends =
-    (Ask 1 1 (Submit 101) Answered, Forwards 1 2 0 1 ∷ []) ∷
+    (Ask 1 1 (Submit (unmarked 101)) Answered, Forwards 1 2 0 1 ∷ []) ∷
     (Deliver 1 Answered, Acks 2 1 0 1 1 ∷ []) ∷
     (Deliver 2 Answered, Commits 1 1 ∷ []) ∷
     (Notice 1 1 Answered, Adopts 1 1 ∷ []) ∷
@@ -289,8 +290,8 @@ a_removed_node_tends =
 -- One node with two batches. A tend trims the first one only.
 abbrev pub a_tend_trims_the_first : Run
 a_tend_trims_the_first =
-    (Ask 1 1 (Submit 101) Answered, Commits 1 1 ∷ []) ∷
-    (Ask 1 2 (Submit 102) Answered, Commits 2 2 ∷ []) ∷
+    (Ask 1 1 (Submit (unmarked 101)) Answered, Commits 1 1 ∷ []) ∷
+    (Ask 1 2 (Submit (unmarked 102)) Answered, Commits 2 2 ∷ []) ∷
     (Tend 1 true 1 Answered, []) ∷
     []
 

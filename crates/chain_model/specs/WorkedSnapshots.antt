@@ -1,6 +1,7 @@
 -- Worked runs of snapshots, with the replies to each event. Batches are numbers here. Definitions
 -- without a source are this store's profile.
 use Rattle.std.specs.Prelude.{◌≡◌, ℕ, zero, suc, [], ◌∷◌, ◌++◌, Some, None, true}
+use Rattle.kv_types.specs.{unmarked}
 use Rattle.chain_model.specs.declared.refusal.Refusal.TheVariants as refusal
 use Rattle.chain_model.specs.Requests.{Submit, Read, Open, Close}
 use Rattle.chain_model.specs.System.{Ask, Tend, Notice, Deliver, Answered, node_of}
@@ -27,10 +28,10 @@ the_65th_is_refused =
 -- one, and rises when it is closed too.
 abbrev pub a_close_leaves_the_other : Run
 a_close_leaves_the_other =
-    (Ask 1 1 (Submit 101) Answered, Commits 1 1 ∷ []) ∷
+    (Ask 1 1 (Submit (unmarked 101)) Answered, Commits 1 1 ∷ []) ∷
     (Ask 1 2 (Open None) Answered, Opens 2 1 ∷ []) ∷
     (Ask 1 3 (Open (Some 1)) Answered, Opens 3 1 ∷ []) ∷
-    (Ask 1 4 (Submit 104) Answered, Commits 4 2 ∷ []) ∷
+    (Ask 1 4 (Submit (unmarked 104)) Answered, Commits 4 2 ∷ []) ∷
     (Ask 1 5 (Close 2) Answered, Refuses 5 refusal.NoSuchSnapshot ∷ []) ∷
     (Ask 1 6 (Close 1) Answered, Closes 6 1 ∷ []) ∷
     (Tend 1 true 9 Answered, []) ∷
@@ -45,9 +46,9 @@ a_close_leaves_the_other =
 -- floor to the committed number, and the floor rises to it.
 abbrev pub an_open_names_its_number : Run
 an_open_names_its_number =
-    (Ask 1 1 (Submit 101) Answered, Commits 1 1 ∷ []) ∷
-    (Ask 1 2 (Submit 102) Answered, Commits 2 2 ∷ []) ∷
-    (Ask 1 3 (Submit 103) Answered, Commits 3 3 ∷ []) ∷
+    (Ask 1 1 (Submit (unmarked 101)) Answered, Commits 1 1 ∷ []) ∷
+    (Ask 1 2 (Submit (unmarked 102)) Answered, Commits 2 2 ∷ []) ∷
+    (Ask 1 3 (Submit (unmarked 103)) Answered, Commits 3 3 ∷ []) ∷
     (Ask 1 4 (Open (Some 2)) Answered, Opens 4 2 ∷ []) ∷
     (Ask 1 5 (Open (Some 4)) Answered, Refuses 5 refusal.NotCommitted ∷ []) ∷
     (Tend 1 true 9 Answered, []) ∷
@@ -60,12 +61,12 @@ an_open_names_its_number =
 -- that raises the floor: another tend raises it no further.
 abbrev pub a_snapshot_stays_open : Run
 a_snapshot_stays_open =
-    (Ask 1 1 (Submit 101) Answered, Forwards 1 2 0 1 ∷ []) ∷
+    (Ask 1 1 (Submit (unmarked 101)) Answered, Forwards 1 2 0 1 ∷ []) ∷
     (Deliver 1 Answered, Acks 2 1 0 1 1 ∷ []) ∷
     (Deliver 2 Answered, Commits 1 1 ∷ []) ∷
     (Ask 1 4 (Open None) Answered, Opens 4 1 ∷ []) ∷
     (Notice 1 1 Answered, Adopts 1 1 ∷ []) ∷
-    (Ask 1 6 (Submit 106) Answered, Commits 6 2 ∷ []) ∷
+    (Ask 1 6 (Submit (unmarked 106)) Answered, Commits 6 2 ∷ []) ∷
     (Tend 1 true 9 Answered, []) ∷
     (Ask 1 8 (Read (Some 0)) Answered, Refuses 8 refusal.TooOld ∷ []) ∷
     (Ask 1 9 (Read (Some 1)) Answered, Reads 9 1 (101 ∷ []) ∷ []) ∷

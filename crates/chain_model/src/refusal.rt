@@ -19,4 +19,6 @@ pub enum Refusal {
     Removed,
     /// No number is left for the batch.
     Exhausted,
+    /// The node has a batch of a later request of the client.
+    OldRequest,
 }

@@ -39,6 +39,7 @@ refusal_text refused.NoSuchSnapshot = codes "5 NoSuchSnapshot"
 refusal_text refused.TooManySnapshots = codes "6 TooManySnapshots"
 refusal_text refused.Removed = codes "7 Removed"
 refusal_text refused.Exhausted = codes "8 Exhausted"
+refusal_text refused.OldRequest = codes "9 OldRequest"
 
 -- the number and name of what is wrong with a statement
 abbrev pub error_text : KvError → List ℕ
@@ -50,6 +51,7 @@ error_text kv.BatchTooLong = codes "5 BatchTooLong"
 error_text kv.BadBytes = codes "6 BadBytes"
 error_text kv.Memory = codes "7 Memory"
 error_text kv.BadLimit = codes "8 BadLimit"
+error_text kv.BadMark = codes "9 BadMark"
 
 -- the name of the reason for a drop
 abbrev pub reason_text : DropReason → List ℕ
@@ -72,6 +74,7 @@ cause_text stop.Disk = codes "disk"
 cause_text stop.Damaged = codes "damaged"
 cause_text stop.Memory = codes "memory"
 cause_text stop.NotCreated = codes "not created"
+cause_text stop.OldFormat = codes "old format"
 
 -- a row of an answer
 abbrev pub printed_row : Row → List ℕ

@@ -13,7 +13,8 @@ use Rattle.std.proofs.lemmas.Bool.{or_cases, or_left, or_right}
 use Rattle.std.proofs.lemmas.Bool.Decides.{Decides-and, Decides-like, Decides-not, Decides-or}
 use Rattle.std.proofs.lemmas.Bool.Decides.{not_from_Decides}
 use Rattle.std.proofs.lemmas.Slice.Eq.{bytes_eq-Decides}
-use Rattle.kv_types.specs.{Entry, StoredKey, stored_cmp}
+use Rattle.byte_fields.specs.{StoredKey, stored_cmp}
+use Rattle.kv_types.specs.{Entry}
 use Rattle.kv_types.specs.OrderLemmas.{Among, Contains-among, Rises, among_from_Contains}
 use Rattle.kv_types.specs.OrderLemmas.{rises_from_AllPairs}
 use Rattle.version_edits.specs.declared.TableLine.{TableLine}

@@ -7,9 +7,8 @@ use Rattle.std.specs.List.{AllZip, filter, list_all, list_any}
 use Rattle.std.specs.Ordering.{is_lt}
 use Rattle.std.proofs.lemmas.Bool.{and_from, and_parts, both_ways, cases_Bool, eq-eqb, eqb-false}
 use Rattle.std.proofs.lemmas.Bool.{eqb-true, not-true, or_left, or_right}
-use Rattle.kv_types.specs.OrderLemmas.{Among, Contains-among, Rises}
-use Rattle.kv_types.specs.OrderLemmas.{among_from_Contains}
-use Rattle.kv_types.specs.{stored_cmp}
+use Rattle.byte_fields.specs.{stored_cmp}
+use Rattle.kv_types.specs.OrderLemmas.{Among, Contains-among, Rises, among_from_Contains}
 use Rattle.store_model.specs.{AreDisjointRanges, AreEdited, AreLeveled}
 use Rattle.store_model.specs.{LevelTable}
 use Rattle.version_edits.specs.declared.TableLine.{TableLine}

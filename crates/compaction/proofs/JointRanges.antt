@@ -5,7 +5,7 @@ use Rattle.std.proofs.Common.{IfSome, refl, sym, ◌∙◌, ap, subst, cond}
 use Rattle.std.specs.List.{fold}
 use Rattle.std.specs.Ordering.{is_lt}
 use Rattle.std.proofs.lemmas.Bool.{both_ways, cases_Bool, cond-false, cond-true, cond_both}
-use Rattle.kv_types.specs.{StoredKey, stored_cmp}
+use Rattle.byte_fields.specs.{StoredKey, stored_cmp}
 use Rattle.kv_types.specs.OrderLemmas.{Among}
 use Rattle.version_edits.specs.declared.TableLine.{TableLine}
 use Rattle.store_model.specs.{KeyPrecedes, KeyRange, RangeLiesIn}

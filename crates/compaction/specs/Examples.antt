@@ -1,7 +1,8 @@
 -- Small versions, and the merges that are due in them.
 use Rattle.std.specs.Prelude.{◌≡◌, ℕ, List, [], ◌∷◌, Option, Some, None, filter, map}
 use Rattle.store_model.specs.{KeyRange}
-use Rattle.kv_types.specs.{Entry, StoredKey}
+use Rattle.byte_fields.specs.{StoredKey}
+use Rattle.kv_types.specs.{Entry}
 use Rattle.version_edits.specs.declared.TableLine.{TableLine}
 use Rattle.version_edits.specs.{StoreVersion}
 use Rattle.compaction.specs.Picks.{picked}

@@ -5,10 +5,11 @@ use Rattle.std.specs.declared.cmp.Ordering.TheVariants.{Greater, Less}
 use Rattle.std.specs.Ordering.{nat_cmp, ordering_reverse, ordering_then}
 use Rattle.std.specs.Cmp.Lexicographic.{nat_list_cmp_total}
 use Rattle.disk.specs.{State}
-use Rattle.kv_types.specs.declared.bounds.TheConstants.{MAX_KEY, MAX_NUMBER}
-use Rattle.kv_types.specs.ByteOrderLemmas.{Less-below}
+use Rattle.byte_fields.specs.ByteOrderLemmas.{Less-below}
+use Rattle.byte_fields.specs.{IsStoredKey, StoredKey, stored_cmp}
+use Rattle.kv_types.specs.declared.bounds.TheConstants.{MAX_NUMBER}
 use Rattle.kv_types.specs.OrderLemmas.{Among, Rises, among_of_All, rises_from_AllPairs}
-use Rattle.kv_types.specs.{Entry, stored_cmp}
+use Rattle.kv_types.specs.{Entry}
 use Rattle.merge_iter.specs.declared.Direction.TheVariants.{Forward}
 use Rattle.merge_iter.specs.{EntryPrecedes}
 use Rattle.table_format.specs.RisingLemmas.{last_among, last_of_some}
@@ -40,13 +41,13 @@ first_least x xs rises e (inl is) before =
 first_least x xs rises e (inr later) before = not_behind x e (rises.0 e later) before
 
 -- the ends of entries, by the keys that a finished table names
-record HasProperEnds (least greatest : List ℕ) : Type 0 where
-  short_least : length least ≤ MAX_KEY
-  short_greatest : length greatest ≤ MAX_KEY
+record HasProperEnds (least greatest : StoredKey) : Type 0 where
+  first : IsStoredKey least
+  last : IsStoredKey greatest
   proper : KeyPrecedes greatest least → ⊥
 
 -- entries of a table have such ends
-has_ends : (entries : List Entry) (least greatest : List ℕ) → All IsTableEntry entries
+has_ends : (entries : List Entry) (least greatest : StoredKey) → All IsTableEntry entries
     → AreRising entries → 1 ≤ length entries
     → IfSome (first_entry entries) (λ entry. least ≡ entry.key)
     → IfSome (last_entry entries) (λ entry. greatest ≡ entry.key) → HasProperEnds least greatest
@@ -58,9 +59,9 @@ has_ends (x ∷ xs) least greatest each rising some first end =
     let there = last_among (x ∷ xs) last.0 last.1 in
     let rises = rises_from_AllPairs (EntryPrecedes Forward) (x ∷ xs) rising in
     record {
-      short_least = subst (λ (k : List ℕ). length k ≤ MAX_KEY) (sym first)
+      first = subst IsStoredKey (sym first)
           (among_of_All IsTableEntry (x ∷ xs) x each (inl refl)).key;
-      short_greatest = subst (λ (k : List ℕ). length k ≤ MAX_KEY) (sym is)
+      last = subst IsStoredKey (sym is)
           (among_of_All IsTableEntry (x ∷ xs) last.0 each there).key;
       proper = λ before. first_least x xs rises last.0 there
           (subst (λ k. KeyPrecedes k x.key) is
@@ -109,8 +110,8 @@ finished_output disk level file entries done merged named f =
         level = merged;
         file = named;
         bytes = omega (arith, len, short);
-        short_least = ends.short_least;
-        short_greatest = ends.short_greatest;
+        least = ends.first;
+        greatest = ends.last;
         proper = λ below. ends.proper (Less-below done.greatest done.least below);
       };
     }

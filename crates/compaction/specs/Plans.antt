@@ -3,7 +3,7 @@ use Rattle.std.specs.Prelude.{◌≡◌, ℕ, ◌+◌, ◌==◌, ◌&&◌, ◌||
 use Rattle.std.specs.Prelude.{List, Option, Some, None, filter}
 use Rattle.std.specs.List.{AllZip, fold}
 use Rattle.std.specs.Ordering.{is_lt}
-use Rattle.kv_types.specs.{StoredKey, stored_cmp}
+use Rattle.byte_fields.specs.{StoredKey, stored_cmp}
 use Rattle.version_edits.specs.declared.TableLine.{TableLine}
 use Rattle.version_edits.specs.{IsVersion, StoreVersion}
 use Rattle.store_model.specs.{IsPlanned, KeyRange, LevelTable, MergePlan}

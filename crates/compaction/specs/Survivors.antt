@@ -4,7 +4,8 @@ use Rattle.std.specs.Prelude.{Bool}
 use Rattle.std.specs.Prelude.{false, List, [], ◌∷◌, Option, Some, None, bytes_eq, is_none, Contains}
 use Rattle.std.specs.List.{list_any}
 use Rattle.std.specs.Ordering.{is_lt}
-use Rattle.kv_types.specs.{Entry, StoredKey, stored_cmp}
+use Rattle.byte_fields.specs.{StoredKey, stored_cmp}
+use Rattle.kv_types.specs.{Entry}
 use Rattle.version_edits.specs.declared.TableLine.{TableLine}
 use Rattle.store_model.specs.{IsDropped, KeyRange, LevelTable, MergePlan, tables_entries}
 use Rattle.table_format.specs.{AreRising}

@@ -1,6 +1,7 @@
 // Finishing an output.
 ghost use Rattle.std.specs.Prelude.{◌≡◌, ◌≤◌, ◌<◌, IsErrOf, List, IfOk, MatchOption, MatchResult};
-ghost use Rattle.std.specs.Prelude.{length};
+ghost use Rattle.std.specs.Prelude.{◌↔◌, IsTrue, length};
+ghost use Rattle.byte_fields.specs.Order.{IsBelow};
 ghost use Rattle.disk.specs.{IsEnvironmental};
 ghost use Rattle.kv_types.specs.declared.bounds.TheConstants.{MAX_NUMBER};
 ghost use Rattle.kv_types.specs.{Entry};
@@ -11,11 +12,19 @@ ghost use Rattle.compaction.specs.Outputs.{IsOutput, WritesOnly, finished_line};
 
 use crate::error::MergeError;
 use crate::open_output::OpenOutput;
+use byte_fields::StoredKey;
 use disk::Disk;
 use kv_types::bounds::MAX_NUMBER;
 use std::alloc::Global;
 use table_builder::Finished;
 use version_edits::TableLine;
+
+// Whether the first key is below the second.
+fn stands_below(a: &StoredKey, b: &StoredKey) -> bool
+    ensures { IsTrue result ↔ IsBelow a.now b.now }
+{
+    a < b
+}
 
 /// The line of a finished table of this level in this file. `None` where a manifest may not have
 /// it, which only a disk that is not honest brings about.
@@ -25,7 +34,7 @@ pub fn finished_line(level: u8, file: u64, done: Finished) -> Option<TableLine>
     ensures { MatchOption result (IsTableLine (finished_line level file done) → ⊥)
         (λ line. (line ≡ finished_line level file done) × IsTableLine line) }
 {
-    if done.length > MAX_NUMBER || done.greatest.is_below(&done.least) {
+    if done.length > MAX_NUMBER || stands_below(&done.greatest, &done.least) {
         return None;
     }
     Some(TableLine {

@@ -7,7 +7,7 @@ ghost use Rattle.compaction.specs.Survivors.{key_range};
 
 use crate::plan::Plan;
 use crate::ranges::is_below;
-use kv_types::LentKey;
+use byte_fields::LentKey;
 use std::alloc::{AllocError, Global};
 use version_edits::{TableLine, TableName};
 

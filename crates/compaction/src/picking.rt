@@ -6,7 +6,8 @@ ghost use Rattle.compaction.specs.Turns.{turn_key};
 
 use crate::plan::Plan;
 use crate::turn::Turn;
-use kv_types::{Key, Limits};
+use byte_fields::StoredKey;
+use kv_types::Limits;
 use version_edits::{StoreVersion, TableLine};
 
 // The number of tables of level 0.
@@ -35,7 +36,7 @@ fn is_larger(tables: &[TableLine], level: u8, limit: u64) -> bool
 }
 
 // Whether a table begins behind a key, if there is one.
-fn begins_behind(after: Option<&Key>, line: &TableLine) -> bool
+fn begins_behind(after: Option<&StoredKey>, line: &TableLine) -> bool
     ensures { result ≡ begins_behind (option_map (λ key. key.now) after.entry) line.now }
 {
     match after {
@@ -45,7 +46,7 @@ fn begins_behind(after: Option<&Key>, line: &TableLine) -> bool
 }
 
 // The file of the first table of the level that begins behind the key.
-fn first_behind(tables: &[TableLine], level: u8, after: Option<&Key>) -> Option<u64>
+fn first_behind(tables: &[TableLine], level: u8, after: Option<&StoredKey>) -> Option<u64>
     ensures { result ≡ option_map (λ line. line.file)
         (first_behind level (option_map (λ key. key.now) after.entry) tables.now) }
 {
@@ -60,7 +61,7 @@ fn first_behind(tables: &[TableLine], level: u8, after: Option<&Key>) -> Option<
 }
 
 // The file of the table whose turn it is in the level.
-fn file_in_turn(tables: &[TableLine], level: u8, after: Option<&Key>) -> Option<u64>
+fn file_in_turn(tables: &[TableLine], level: u8, after: Option<&StoredKey>) -> Option<u64>
     ensures { result ≡ option_map (λ line. line.file)
         (table_in_turn level (option_map (λ key. key.now) after.entry) tables.now) }
 {

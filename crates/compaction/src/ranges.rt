@@ -2,10 +2,10 @@
 ghost use Rattle.std.specs.Prelude.{◌≡◌};
 ghost use Rattle.std.specs.List.{list_any};
 ghost use Rattle.std.specs.Ordering.{is_lt};
-ghost use Rattle.kv_types.specs.{lent_key, stored_cmp};
+ghost use Rattle.byte_fields.specs.{lent_key, stored_cmp};
 ghost use Rattle.compaction.specs.Survivors.{line_holds};
 
-use kv_types::LentKey;
+use byte_fields::LentKey;
 use version_edits::TableLine;
 
 // Whether the first key is below the second.

@@ -1,13 +1,13 @@
 // Whose turn it is in a level.
 ghost use Rattle.std.specs.Prelude.{◌≡◌, length};
 
-use kv_types::Key;
+use byte_fields::StoredKey;
 use std::alloc::{AllocError, Global};
 
 /// The greatest key of the table that was last merged out of each level since the start.
 #[derive(Drop)]
 pub struct Turn {
-    last: Vec<Option<Key>>,
+    last: Vec<Option<StoredKey>>,
     ghost levels: { length last.items ≡ 7 },
 }
 
@@ -28,7 +28,7 @@ impl Turn {
     }
 
     /// The greatest key of the table that was last merged out of the level.
-    pub fn after(&self, level: u8) -> Option<&Key>
+    pub fn after(&self, level: u8) -> Option<&StoredKey>
         ensures { option_map (λ key. key.now) result ≡ turn_key self.now level }
     {
         match self.last.get(level as usize) {
@@ -38,7 +38,7 @@ impl Turn {
     }
 
     /// Records that a table with this greatest key is merged out of the level.
-    pub fn advance(&mut self, level: u8, key: Key)
+    pub fn advance(&mut self, level: u8, key: StoredKey)
         requires { level ≤ 6 }
         ensures { (other : ℕ) → turn_key self.new other
             ≡ (if other == level then Some key else turn_key self.old other) }

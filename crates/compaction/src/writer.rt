@@ -7,8 +7,8 @@ use crate::error::MergeError;
 use crate::finishing::finish_output;
 use crate::open_output::OpenOutput;
 use crate::ranges::any_holds;
+use byte_fields::{KeyBuffer, LentKey};
 use disk::Disk;
-use kv_types::{KeyBuffer, LentKey};
 use std::alloc::{AllocError, Global};
 use std::mem::replace;
 use table_builder::Builder;
@@ -41,7 +41,8 @@ impl OutputWriter {
     ghost use Rattle.std.specs.Prelude.{bytes_eq};
     ghost use Rattle.std.specs.Prelude.{IsOkAnd, length};
     ghost use Rattle.disk.specs.{IsEnvironmental, State};
-    ghost use Rattle.kv_types.specs.{Entry, lent_key};
+    ghost use Rattle.byte_fields.specs.{lent_key};
+    ghost use Rattle.kv_types.specs.{Entry};
     ghost use Rattle.version_edits.specs.declared.line.TheConstants.{MAX_LINES};
     ghost use Rattle.table_format.specs.{CanFollow, IsTableEntry, lent_entry};
     ghost use Rattle.compaction.specs.declared.error.MergeError.TheVariants.{Disk, Memory};
@@ -89,7 +90,7 @@ impl OutputWriter {
     fn is_same(&self, key: LentKey) -> bool
         ensures { result ≡ bytes_eq self.now.key (lent_key key.entry) }
     {
-        self.key.lent().as_bytes() == key.as_bytes()
+        self.key.lent().is_same(key)
     }
 
     // Whether the two rules drop the entry.

@@ -1,5 +1,6 @@
 //! Keys, batches, lists and the like, as tests make them.
 
+use byte_fields::StoredKey;
 use kv_types::{Key, Number};
 use std::alloc::Global;
 use std::process::Abort;
@@ -21,6 +22,12 @@ pub fn put<T: Drop>(rt: &impl Abort, list: &mut Vec<T>, item: T) {
 
 pub fn key_of(rt: &impl Abort, alloc: Global, bytes: &[u8]) -> Key {
     Key::new(copy_of(rt, alloc, bytes)).expect(rt, "a key")
+}
+
+/// The key of the row at these bytes, as that of an entry.
+pub fn row_key_of(rt: &impl Abort, alloc: Global, bytes: &[u8]) -> StoredKey {
+    let key = key_of(rt, alloc, bytes);
+    key.stored().clone().expect(rt, "memory")
 }
 
 pub fn number(value: u64) -> Number {

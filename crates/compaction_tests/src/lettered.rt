@@ -1,15 +1,15 @@
 //! Tables whose entries are spelled in letters, versions that name them, and what an edit says in
 //! letters. An entry is three letters: its key, its number, and `+` for a value or `-` for a
-//! deletion.
+//! deletion. A capital letter is the key of the client of its number.
 ghost use Rattle.merge_iter.specs.{IsOn};
 
 use crate::cases::is_so;
-use crate::entries::entry_of;
-use crate::items::{is_same, put};
+use crate::entries::{client_key, entry_at};
+use crate::items::{is_same, put, row_key_of};
 use crate::open_tables::{build, cursor_in};
+use byte_fields::{LentKey, Space, StoredKey};
 use configurations::NodeId;
 use disk::{Disk, MemDisk};
-use kv_types::StoredKey;
 use merge_iter::{Cursor, OwnedEntry};
 use record_log::Log;
 use sorted_table::{CachedDisk, TableCursor};
@@ -34,26 +34,26 @@ fn spell(rt: &impl Abort, bytes: &mut Vec<u8>, key: &StoredKey) {
 }
 
 /// The entry of three letters, with a value of so many bytes, 5,000 at most.
-fn entry_at(rt: &impl Abort, alloc: Global, letters: &[u8], len: usize) -> OwnedEntry {
+fn entry_in(rt: &impl Abort, alloc: Global, letters: &[u8], len: usize) -> OwnedEntry {
     let (key, number, sign) = match letters {
         [key, number, sign] => (*key, *number, *sign),
         _ => (b'?', b'0', b'?'),
     };
     let value = [number; 5_000];
     let value = if sign == b'+' { value.get(..len) } else { None };
-    entry_of(
-        rt,
-        alloc,
-        &[key],
-        u64::from(number.wrapping_sub(b'0')),
-        value,
-    )
+    let number = u64::from(number.wrapping_sub(b'0'));
+    let key = if key.is_ascii_uppercase() {
+        client_key(rt, alloc, u64::from(key))
+    } else {
+        row_key_of(rt, alloc, &[key])
+    };
+    entry_at(rt, alloc, key, number, value)
 }
 
 pub fn entries_of(rt: &impl Abort, alloc: Global, letters: &[u8], len: usize) -> Vec<OwnedEntry> {
     let mut entries = Vec::new(alloc);
     for three in letters.chunks(3) {
-        put(rt, &mut entries, entry_at(rt, alloc, three, len));
+        put(rt, &mut entries, entry_in(rt, alloc, three, len));
     }
     entries
 }
@@ -124,10 +124,11 @@ fn digit_of(number: u64) -> u8 {
     b'0'.wrapping_add((number % 10) as u8)
 }
 
-/// The letter that is a key.
-fn letter_of(key: &[u8]) -> u8 {
-    match key {
-        [letter] => *letter,
+/// The letter that is a key: a small one of a row, and a capital one of a client.
+fn letter_of(key: LentKey) -> u8 {
+    match (key.space(), key.as_bytes()) {
+        (Space::Rows, [letter]) if !letter.is_ascii_uppercase() => *letter,
+        (Space::Marks, [0, 0, 0, 0, 0, 0, 0, letter]) if letter.is_ascii_uppercase() => *letter,
         _ => b'?',
     }
 }
@@ -142,7 +143,7 @@ fn letters_at<C: Cursor>(cursor: &C) -> [u8; 3]
         Some(value) if is_same(value, &[number; LEN]) => b'+',
         Some(_) => b'?',
     };
-    [letter_of(cursor.key().as_bytes()), number, sign]
+    [letter_of(cursor.key()), number, sign]
 }
 
 /// Writes the entries of a table.
@@ -173,8 +174,8 @@ fn write_table(
     let len = files.length(line.file).expect(rt, "a file");
     is_so(rt, line.level == 1 && line.length == len, "a line");
     let place = digit_of(line.file.wrapping_sub(FIRST));
-    let least = letter_of(line.least.as_bytes());
-    let greatest = letter_of(line.greatest.as_bytes());
+    let least = letter_of(line.least.lent());
+    let greatest = letter_of(line.greatest.lent());
     write(rt, letters, &[b' ', place, least, greatest, b':']);
     let mut cursor = cursor_in(rt, alloc, files, line.file);
     write_entries(rt, letters, files, &mut cursor);

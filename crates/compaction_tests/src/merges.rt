@@ -157,19 +157,36 @@ static FLOORS: [Row; 6] = [
     (9, 4_096, true, b"040516 0ae:a8+b7+c9+d6+e8-"),
 ];
 
-const AT_252: &[u8] = b"040516 0aa:a8+a5+a4-a1+ 1bb:b7+b5-b2+ 2cd:c9+c4-d6+d1- 3ef:e8-e3+f7-";
+const AT_255: &[u8] = b"040516 0aa:a8+a5+a4-a1+ 1bb:b7+b5-b2+ 2cd:c9+c4-d6+d1- 3ef:e8-e3+f7-";
 
-const AT_253: &[u8] = b"040516 0aa:a8+a5+a4-a1+ 1bc:b7+b5-b2+c9+c4- 2de:d6+d1-e8-e3+ 3ff:f7-";
+const AT_256: &[u8] = b"040516 0aa:a8+a5+a4-a1+ 1bc:b7+b5-b2+c9+c4- 2de:d6+d1-e8-e3+ 3ff:f7-";
 
 const AT_1: &[u8] =
     b"040516 0aa:a8+a5+a4-a1+ 1bb:b7+b5-b2+ 2cc:c9+c4- 3dd:d6+d1- 4ee:e8-e3+ 5ff:f7-";
 
-/// A block has 12 bytes beside its entries, a deletion 12 and a put 114.
+/// A block has 12 bytes beside its entries, a deletion 13 and a put 115.
 static CUTS: [Row; 4] = [
-    (0, 252, false, AT_252),
-    (0, 253, false, AT_253),
+    (0, 255, false, AT_255),
+    (0, 256, false, AT_256),
     (0, 1, false, AT_1),
     (9, 1, false, b"040516 0aa:a8+ 1bb:b7+ 2cc:c9+ 3dd:d6+"),
+];
+
+/// Inputs with marks of two clients. They are of the range from `a` to the client `N`, in which the
+/// table of `m` is too.
+static MARKED: Inputs = [b"a5+M4+", b"b8+M7+N6+", b"a1+b2+"];
+
+/// Of each client the marks that a number from the floor on sees are kept, and always the last.
+static MARKS: [Row; 4] = [
+    (0, 4_096, false, b"04051617 0aN:a5+a1+b8+b2+m2+M7+M4+N6+"),
+    (5, 4_096, false, b"04051617 0aN:a5+b8+b2+m2+M7+M4+N6+"),
+    (9, 4_096, false, b"04051617 0aN:a5+b8+m2+M7+N6+"),
+    (
+        9,
+        1,
+        true,
+        b"04051617 0aa:a5+ 1bb:b8+ 2mm:m2+ 3MM:M7+ 4NN:N6+",
+    ),
 ];
 
 /// Inputs of which nothing is left at 9.
@@ -180,6 +197,7 @@ fn merges_of_three_tables(rt: HostRuntime) {
     let alloc = rt.alloc();
     all_are_merged(&rt, alloc, &INPUTS, &FLOORS);
     all_are_merged(&rt, alloc, &INPUTS, &CUTS);
+    all_are_merged(&rt, alloc, &MARKED, &MARKS);
     all_are_merged(&rt, alloc, &DELETED, &[(9, 1, false, b"040516")]);
 }
 

@@ -53,7 +53,7 @@ pub fn put_row(
 /// Puts the rows of a page.
 pub fn put_page(alloc: Global, text: &mut String, page: &Page) -> Result<(), AllocError> {
     for row in page.rows() {
-        put_row(alloc, text, row.key().as_bytes(), row.value())?;
+        put_row(alloc, text, row.key(), row.value())?;
     }
     Ok(())
 }

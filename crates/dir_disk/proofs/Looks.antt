@@ -28,7 +28,7 @@ module _ {D : Type 0} (g : Ghosts D) where
   -- one call
   pub looked_once : {T told : Type 0} (result : Result T DiskError) (old new : D) →
       KeepsDisk g old new told ⊥ IsSame →
-      (g.is_honest old → CallPasses (g.past old) (g.past new) (fault_of (g.marks old))
+      (g.is_honest old → CallPasses (g.past old) (g.past new) (fault_of (g.incidents old))
       (g.is_reliable old) result (g.state old) (g.state new) (λ _. IsSame (g.state old))) →
       LooksOnce g old new
   looked_once result old new kept passes = record {

@@ -5,14 +5,14 @@ use Rattle.std.specs.Prelude.{Result, IsErrOf, MatchResult, ◌-◌, ◌^◌, �
 use Rattle.std.specs.List.{list_any}
 use Rattle.std.specs.declared.alloc.Global.{Global}
 use Rattle.std.specs.declared.string.String.{String}
-use Rattle.disk.specs.{Absent, CallsAtMost, IsSame, IsStill, KeepsDisk, Marks, RisesByOne, State}
-use Rattle.disk.specs.{seen}
+use Rattle.disk.specs.{Absent, CallsAtMost, Incidents, IsSame, IsStill, KeepsDisk, RisesByOne}
+use Rattle.disk.specs.{State, seen}
 use Rattle.disk.specs.Calls.{IsRefusalOf}
 use Rattle.disk.specs.declared.Disk.{Ghosts}
 use Rattle.disk.specs.declared.error.DiskError.{DiskError}
 use Rattle.disk.specs.declared.error.DiskError.TheVariants.{Failed}
 use Rattle.disk.specs.declared.Junk.TheVariants.{Bytes}
-use Rattle.disk.specs.declared.Mark.TheVariants.{Crashed}
+use Rattle.disk.specs.declared.Incident.TheVariants.{Crashed}
 use Rattle.dir_disk.specs.declared.folder.DirDisk.{DirDisk}
 use Rattle.dir_disk.specs.declared.open_files.OpenFiles.{OpenFiles}
 use Rattle.dir_disk.specs.declared.unchanged.Unchanged.{Unchanged}
@@ -51,8 +51,8 @@ test_byte test = cond test 1 0
 
 -- What is noted of a folder. It claims no honesty, so these are no faults and no crashes: they tell
 -- of its lock, of its path and whether its files may be changed, and no call changes them.
-abbrev pub folder_marks : {R : Type 0} → DirDisk R → Marks
-folder_marks disk = (
+abbrev pub folder_incidents : {R : Type 0} → DirDisk R → Incidents
+folder_incidents disk = (
   0,
   Crashed (Bytes (test_byte (is_some disk.lock) ∷ test_byte disk.writes
       ∷ string_bytes (disk_folder disk))),
@@ -98,7 +98,7 @@ pub record KeepsFolder {R T : Type 0} (old new : DirDisk R) (result : Result T D
   pub same : IsSetUpAs old new
 
 -- What a call keeps of the disk inside that only looks at it: the files of an honest disk, and the
--- marks of any. That disk has failed exactly where the call is `Failed` below the last count.
+-- incidents of any. That disk has failed exactly where the call is `Failed` below the last count.
 abbrev pub KeepsInner : {D T : Type 0} → Ghosts D → (old new : Unchanged D) → Result T DiskError →
     Type 0
 KeepsInner g old new result =

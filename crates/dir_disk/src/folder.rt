@@ -182,7 +182,7 @@ impl<R: Files<File = File> + Alloc<A = Global> + Clone + Drop> DirDisk<R> {
 }
 
 impl<R: Files<File = File> + Alloc<A = Global> + Clone + Drop> Disk for DirDisk<R> {
-    ghost use Rattle.dir_disk.specs.Disks.{KeepsFolder, folder_marks, may_change, open_files};
+    ghost use Rattle.dir_disk.specs.Disks.{KeepsFolder, folder_incidents, may_change, open_files};
     ghost use Rattle.dir_disk.specs.Open.{IsNotOpen};
 
     ghost is_honest = { λ disk. ⊥ };
@@ -195,7 +195,7 @@ impl<R: Files<File = File> + Alloc<A = Global> + Clone + Drop> Disk for DirDisk<
 
     ghost past = { λ disk. [] };
 
-    ghost marks = { folder_marks };
+    ghost incidents = { folder_incidents };
 
     ghost allocates = { Unit {0} };
 

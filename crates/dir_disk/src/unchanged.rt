@@ -147,7 +147,7 @@ impl<D: Disk + Drop> Disk for Unchanged<D> {
 
     ghost past = { λ disk. [] };
 
-    ghost marks = { λ disk. [] };
+    ghost incidents = { λ disk. [] };
 
     ghost allocates = { Unit {0} };
 

@@ -32,7 +32,7 @@ failed_counts (Err Memory) before now failed is = absurd cc
 pub fail_passes : (T : Type 0) (slots : List (ℕ × Slot)) (old new : DeviceState)
     (result : Result T DiskError) (R : Type 0) (Effect : Result T DiskError → State → Type 0) →
     DeviceFails slots old new result → Effect (Err NoFile) (state_of slots) →
-    CallPasses (map state_of old.past) (map state_of new.past) (fault_of old.marks) R result
+    CallPasses (map state_of old.past) (map state_of new.past) (fault_of old.incidents) R result
     (state_of slots) (state_of slots) Effect
 fail_passes T slots old new result R Effect fails begun =
     let since : map state_of new.past ≡ state_of slots ∷ map state_of old.past =

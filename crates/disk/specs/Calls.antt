@@ -9,7 +9,7 @@ use Rattle.disk.specs.declared.error.DiskError.{DiskError}
 use Rattle.disk.specs.declared.error.DiskError.TheVariants.{Failed, NoFile, Short, Memory}
 use Rattle.disk.specs.States.{State, Slot, seen, IsSame, ChangesSlot, MayHaveChanged}
 use Rattle.disk.specs.States.{written, cut_to, synced, removed}
-use Rattle.disk.specs.Faults.{HasStruckBy, Marks, fault_of}
+use Rattle.disk.specs.Faults.{HasStruckBy, Incidents, fault_of}
 
 -- a write of this length from this place on would end past the greatest place of a file
 abbrev pub EndsOutOfRange : ℕ → ℕ → Type 0
@@ -23,13 +23,13 @@ pub record RisesByOne (before now : ℕ) : Type 0 where
   pub last : 2 ^ 64 - 1 ≤ before → now ≡ before
 
 -- the fault that the disk is armed with has struck
-abbrev pub HasStruck : {D : Type 0} → (D → Marks) → (D → List State) → D → Type 0
-HasStruck marks past disk = HasStruckBy (fault_of (marks disk)) (length (past disk))
+abbrev pub HasStruck : {D : Type 0} → (D → Incidents) → (D → List State) → D → Type 0
+HasStruck incidents past disk = HasStruckBy (fault_of (incidents disk)) (length (past disk))
 
 -- The effect of a call on a disk with these ghost members, honest or not. `has_failed` says that
 -- the call reports a failure of the device.
 pub record KeepsBy {D : Type 0} (is_honest : D → Type 0) (state : D → State) (failures : D → ℕ)
-    (is_reliable : D → Type 0) (past : D → List State) (marks : D → Marks) (old new : D)
+    (is_reliable : D → Type 0) (past : D → List State) (incidents : D → Incidents) (old new : D)
     (has_failed cause : Type 0) (IsKept : State → State → Type 0) : Type 0 where
   -- the disk is honest after the call exactly if it was before
   pub honest : is_honest new ↔ is_honest old
@@ -38,23 +38,23 @@ pub record KeepsBy {D : Type 0} (is_honest : D → Type 0) (state : D → State)
   -- otherwise the count stays the same
   pub count : (has_failed → ⊥) → failures new ≡ failures old
   -- a reliable disk whose fault has not struck fails only for this cause
-  pub only : is_reliable old → (HasStruck marks past new → ⊥) → has_failed → cause
+  pub only : is_reliable old → (HasStruck incidents past new → ⊥) → has_failed → cause
   -- the disk stays reliable after a call that has not failed
   pub reliable : is_reliable old → (has_failed → ⊥) → is_reliable new
   -- the files of an honest disk keep this relation
   pub files : is_honest old → IsKept (state old) (state new)
   -- no fault was armed, and no crash came: a fault that is armed stays armed
-  pub fault : marks new ≡ marks old
+  pub fault : incidents new ≡ incidents old
   -- where it strikes, the call fails
-  pub spared : (HasStruck marks past old → ⊥) → (has_failed → ⊥) →
-      HasStruck marks past new → ⊥
+  pub spared : (HasStruck incidents past old → ⊥) → (has_failed → ⊥) →
+      HasStruck incidents past new → ⊥
 
 -- The effect of one of the disk's own calls. At the last value of the count it only fails.
 pub record CallKeeps {D T : Type 0} (is_honest : D → Type 0) (state : D → State)
     (failures : D → ℕ) (is_reliable : D → Type 0) (past : D → List State)
-    (marks : D → Marks) (old new : D) (result : Result T DiskError)
+    (incidents : D → Incidents) (old new : D) (result : Result T DiskError)
     (cause : Type 0) (IsKept : State → State → Type 0) : Type 0 where
-  pub disk : KeepsBy is_honest state failures is_reliable past marks old new
+  pub disk : KeepsBy is_honest state failures is_reliable past incidents old new
       (IsErrOf result Failed) cause IsKept
   pub last : 2 ^ 64 - 1 ≤ failures old → IsErrOf result Failed
 

@@ -1,5 +1,5 @@
 -- The device behind a disk in memory: its failures, the states that the disk has had, and its
--- marks.
+-- incidents.
 use Rattle.std.specs.Prelude.{◌≡◌, ℕ, suc, ◌-◌, List, ◌∷◌, length}
 use Rattle.std.specs.Prelude.{Option, Some, Result, Err}
 use Rattle.std.specs.Option.{option_map}
@@ -7,14 +7,14 @@ use Rattle.disk.specs.declared.error.DiskError.{DiskError}
 use Rattle.disk.specs.declared.error.DiskError.TheVariants.{Failed, Memory}
 use Rattle.disk.specs.States.{Slot}
 use Rattle.disk.specs.Calls.{RisesByOne}
-use Rattle.disk.specs.Faults.{Marks, WasMade, fault_of}
+use Rattle.disk.specs.Faults.{Incidents, WasMade, fault_of}
 
 -- how often it failed, the slots at first and after each call and crash, the latest first, and its
--- marks
+-- incidents
 pub record DeviceState : Type 0 where
   pub failures : ℕ
   pub past : List (List (ℕ × Slot))
-  pub marks : Marks
+  pub incidents : Incidents
 
 -- how many calls are left, where the past is so long, to a fault that strikes where it becomes so
 -- long: none once it has struck
@@ -23,12 +23,12 @@ calls_left at len = option_map (λ it. it - len) at
 
 -- the fault strikes the next call
 abbrev pub IsNext : DeviceState → Type 0
-IsNext device = fault_of device.marks ≡ Some (suc (length device.past))
+IsNext device = fault_of device.incidents ≡ Some (suc (length device.past))
 
 -- a call was counted that left these slots
 pub record IsCounted (slots : List (ℕ × Slot)) (old new : DeviceState) : Type 0 where
   pub past : new.past ≡ slots ∷ old.past
-  pub marks : new.marks ≡ old.marks
+  pub incidents : new.incidents ≡ old.incidents
 
 -- a call failed, and left these slots
 pub record DeviceFails {T : Type 0} (slots : List (ℕ × Slot)) (old new : DeviceState)

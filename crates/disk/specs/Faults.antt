@@ -6,8 +6,8 @@ use Rattle.disk.specs.declared.error.DiskError.{DiskError}
 use Rattle.disk.specs.declared.error.DiskError.TheVariants.{Failed, NoFile, Short, Memory}
 use Rattle.disk.specs.declared.fault.Fault.{Fault}
 use Rattle.disk.specs.declared.fault.Fault.TheVariants as fault
-use Rattle.disk.specs.declared.mark.Mark.{Mark}
-use Rattle.disk.specs.declared.mark.Mark.TheVariants.{Armed, Crashed}
+use Rattle.disk.specs.declared.incident.Incident.{Incident}
+use Rattle.disk.specs.declared.incident.Incident.TheVariants.{Armed, Crashed}
 use Rattle.disk.specs.States.{State, IsSame}
 use Rattle.disk.specs.Moments.{Passes}
 
@@ -29,18 +29,18 @@ abbrev pub armed_after : ℕ → Option ℕ → Option ℕ
 armed_after len call = option_map (λ n. len + n) call
 
 -- what came when the past was so long: a fault was armed, or the disk crashed
-abbrev pub Marks : Type 0
-Marks = List (ℕ × Mark)
+abbrev pub Incidents : Type 0
+Incidents = List (ℕ × Incident)
 
 -- how long the past is once the armed fault has struck, by the latest of these
-abbrev pub fault_by : ℕ → Mark → Option ℕ
+abbrev pub fault_by : ℕ → Incident → Option ℕ
 fault_by len (Armed call) = armed_after len call
 fault_by len (Crashed junk) = None
 
--- how long the past is once the armed fault has struck, by the latest mark, if one is armed
-abbrev pub fault_of : Marks → Option ℕ
+-- how long the past is once the armed fault has struck, by the latest incident, if one is armed
+abbrev pub fault_of : Incidents → Option ℕ
 fault_of [] = None
-fault_of (mark ∷ before) = fault_by mark.0 mark.1
+fault_of (incident ∷ before) = fault_by incident.0 incident.1
 
 -- a fault that strikes where the past becomes so long has struck: it is so long now
 abbrev pub HasStruckBy : Option ℕ → ℕ → Type 0

@@ -2,7 +2,7 @@
 use Rattle.disk.specs.declared.disk.Disk.{Ghosts}
 use Rattle.std.specs.Prelude.{◌≡◌, ◌↔◌, ◌∷◌, ℕ, length}
 use Rattle.disk.specs.declared.fault.Fault.{Fault}
-use Rattle.disk.specs.declared.mark.Mark.TheVariants.{Armed}
+use Rattle.disk.specs.declared.incident.Incident.TheVariants.{Armed}
 use Rattle.disk.specs.States.{State, Contents, IsCrashOutcome, IsSame, IsSameBut}
 use Rattle.disk.specs.Moments.{IsLastLeft, IsLeftAt, LeavesSince}
 use Rattle.disk.specs.Calls.{KeepsBy}
@@ -13,7 +13,7 @@ use Rattle.disk.specs.Faults.{struck_call}
 -- reliable. The last argument relates the files of an honest disk before and after the call.
 abbrev pub KeepsDisk : {D : Type 0} → Ghosts D → (old new : D) → (has_failed cause : Type 0) →
     (State → State → Type 0) → Type 0
-KeepsDisk g = KeepsBy g.is_honest g.state g.failures g.is_reliable g.past g.marks
+KeepsDisk g = KeepsBy g.is_honest g.state g.failures g.is_reliable g.past g.incidents
 
 -- a crash at any moment since the call began leaves only contents with P
 abbrev pub AlwaysLeaves : {D : Type 0} → Ghosts D → (old new : D) → (Contents → Type 0) → Type 0
@@ -41,5 +41,5 @@ pub record IsArmed {D : Type 0} (g : Ghosts D) (fault : Fault) (old new : D) : T
   pub past : g.past new ≡ g.past old
   -- the latest state of its past is the one that it has
   pub last : g.is_honest old → IsLastLeft (g.past new) (g.state new)
-  pub marks : g.is_honest old →
-      g.marks new ≡ (length (g.past old), Armed (struck_call fault)) ∷ g.marks old
+  pub incidents : g.is_honest old →
+      g.incidents new ≡ (length (g.past old), Armed (struck_call fault)) ∷ g.incidents old

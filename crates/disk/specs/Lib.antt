@@ -26,7 +26,7 @@ pub use Rattle.disk.specs.Calls.{EndsOutOfRange, HasStruck, RisesByOne, SyncOutc
 pub use Rattle.disk.specs.Calls.{WriteOutcome}
 pub use Rattle.disk.specs.CallCounts.{CallsAtMost, MakesCalls}
 pub use Rattle.disk.specs.Crashes.{CrashOutcome, CrashedIsDurable}
-pub use Rattle.disk.specs.Faults.{HasStruckBy, Marks, armed_after, fault_of, struck_call}
+pub use Rattle.disk.specs.Faults.{HasStruckBy, Incidents, armed_after, fault_of, struck_call}
 pub use Rattle.disk.specs.Lent.{AlwaysLeaves, IsArmed, IsStill, KeepsDisk, WritesInto}
 pub use Rattle.disk.specs.Memory.{IsReliable, Slots, past_states, state_of}
 pub use Rattle.disk.specs.Moments.{AddsMoment, AllLeave, AreLeftOf, IsLastLeft, IsLeftAt}

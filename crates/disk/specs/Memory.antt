@@ -4,17 +4,17 @@ use Rattle.std.specs.Prelude.{Option, Some, None}
 use Rattle.std.specs.Map.{lookup}
 use Rattle.std.specs.BTreeMap.{is_at}
 use Rattle.std.specs.Ordering.{nat_cmp}
-use Rattle.disk.specs.Faults.{Marks}
+use Rattle.disk.specs.Faults.{Incidents}
 use Rattle.disk.specs.Moments.{IsLastLeft}
 use Rattle.disk.specs.States.{Slot, Absent, Fresh, Kept, State, AgreesOutside}
 
 -- the slots by number, the count of failed calls, the slots that it had at first and after each
--- call and crash, the latest first, and its marks
+-- call and crash, the latest first, and its incidents
 pub record Slots : Type 0 where
   pub slots : List (ℕ × Slot)
   pub failures : ℕ
   pub past : List (List (ℕ × Slot))
-  pub marks : Marks
+  pub incidents : Incidents
 
 -- a call with valid arguments fails only where a fault struck: the count of failures is below its
 -- last value

@@ -1,7 +1,7 @@
 // Disks that can be made to fail and to crash.
 ghost use Rattle.std.specs.Prelude.{◌≡◌, ◌↔◌, ◌∷◌, IsTrue, length};
 ghost use Rattle.disk.specs.Calls.{HasStruck};
-ghost use Rattle.disk.specs.declared.mark.Mark.TheVariants.{Crashed};
+ghost use Rattle.disk.specs.declared.incident.Incident.TheVariants.{Crashed};
 ghost use Rattle.disk.specs.Lent.{IsArmed};
 ghost use Rattle.disk.specs.Moments.{AddsMoment, IsLastLeft};
 ghost use Rattle.disk.specs.States.{IsCrashOutcome, contents};
@@ -20,7 +20,7 @@ pub trait Crash: Disk {
 
     /// Whether the fault has struck.
     fn has_struck(&self) -> bool
-        ensures struck { IsTrue result ↔ HasStruck Self.marks Self.past self.now }
+        ensures struck { IsTrue result ↔ HasStruck Self.incidents Self.past self.now }
         // The latest state of its past is the one that it has.
         ensures last { Self.is_honest self.now →
             IsLastLeft (Self.past self.now) (Self.state self.now) };
@@ -33,8 +33,8 @@ pub trait Crash: Disk {
         ensures reliable { Self.is_reliable self.old → Self.is_reliable self.new }
         ensures past { Self.is_honest self.old →
             AddsMoment (Self.past self.old) (Self.past self.new) (Self.state self.new) }
-        ensures marks { Self.is_honest self.old → Self.marks self.new ≡
-            (length (Self.past self.old), Crashed junk) ∷ Self.marks self.old }
+        ensures incidents { Self.is_honest self.old → Self.incidents self.new ≡
+            (length (Self.past self.old), Crashed junk) ∷ Self.incidents self.old }
         ensures crashes { Self.is_honest self.old →
             CrashOutcome junk (Self.state self.old) (Self.state self.new) }
         ensures allowed { Self.is_honest self.old →

@@ -5,15 +5,15 @@ ghost use Rattle.disk.specs.Devices.{AnswerEnds, DeviceFails, IsNext};
 
 use crate::history::History;
 use crate::slot::MemSlot;
-use crate::{DiskError, Fault, Junk, Mark};
+use crate::{DiskError, Fault, Incident, Junk};
 use std::collections::BTreeMap;
 use std::marker::Model;
 
-/// A mark, and the past that the device had when it came.
+/// An incident, and the past that the device had when it came.
 #[derive(Drop)]
-pub struct Marked {
+pub struct DatedIncident {
     at: History<BTreeMap<u64, MemSlot>>,
-    mark: Mark,
+    incident: Incident,
 }
 
 #[derive(Drop)]
@@ -23,7 +23,7 @@ pub struct Device {
     fault: Option<u64>,
     // The slots at first and after each call and crash so far.
     history: History<BTreeMap<u64, MemSlot>>,
-    marked: History<Marked>,
+    occurred: History<DatedIncident>,
 }
 
 impl Model for Device {
@@ -36,12 +36,12 @@ impl Model for Device {
     ghost view = { λ device. record {
       failures = device.failures;
       past = map (λ it. it.entries) device.history.past;
-      marks = map (λ it. (length it.at.past, it.mark)) device.marked.past;
+      incidents = map (λ it. (length it.at.past, it.incident)) device.occurred.past;
     } };
 
-    // The fault is the one that its marks tell.
+    // The fault is the one that its incidents tell.
     ghost invariant = { λ device. device.fault ≡ calls_left
-        (fault_of (map (λ it. (length it.at.past, it.mark)) device.marked.past))
+        (fault_of (map (λ it. (length it.at.past, it.incident)) device.occurred.past))
         (length device.history.past) };
 }
 
@@ -50,13 +50,13 @@ impl Device {
     pub fn new(slots: &BTreeMap<u64, MemSlot>) -> Device
         ensures failures { result.failures ≡ 0 }
         ensures past { result.past ≡ slots.now.entries ∷ [] }
-        ensures marks { result.marks ≡ [] }
+        ensures incidents { result.incidents ≡ [] }
     {
         Device {
             failures: 0,
             fault: None,
             history: History::new().with(slots),
-            marked: History::new(),
+            occurred: History::new(),
         }
     }
 
@@ -68,7 +68,7 @@ impl Device {
             failures: self.failures,
             fault: self.fault,
             history: self.history.copy(),
-            marked: self.marked.copy(),
+            occurred: self.occurred.copy(),
         }
     }
 
@@ -76,24 +76,24 @@ impl Device {
     pub fn arm(&mut self, fault: &Fault)
         ensures failures { self.new.failures ≡ self.old.failures }
         ensures past { self.new.past ≡ self.old.past }
-        ensures marks { self.new.marks ≡
-            (length self.old.past, Mark.Armed (struck_call fault.now)) ∷ self.old.marks }
+        ensures incidents { self.new.incidents ≡
+            (length self.old.past, Incident.Armed (struck_call fault.now)) ∷ self.old.incidents }
     {
         let call = match fault {
             Fault::None | Fault::Fail(0) | Fault::Stop(0, _) => None,
             Fault::Fail(call) | Fault::Stop(call, _) => Some(*call),
         };
-        let mark = Mark::Armed(call);
-        self.marked = self.marked.with(&Marked {
+        let incident = Incident::Armed(call);
+        self.occurred = self.occurred.with(&DatedIncident {
             at: self.history.copy(),
-            mark,
+            incident,
         });
         self.fault = call;
     }
 
     /// Whether the fault has struck.
     pub fn has_struck(&self) -> bool
-        ensures { IsTrue result ↔ HasStruckBy (fault_of self.now.marks) (length self.now.past) }
+        ensures { IsTrue result ↔ HasStruckBy (fault_of self.now.incidents) (length self.now.past) }
     {
         match self.fault {
             None => false,
@@ -115,7 +115,7 @@ impl Device {
     /// below its last value.
     pub fn works(&self) -> bool
         ensures { IsTrue result ↔ ((self.now.failures < 2 ^ 64 - 1)
-            × (HasStruckBy (fault_of self.now.marks) (length self.now.past) → ⊥)) }
+            × (HasStruckBy (fault_of self.now.incidents) (length self.now.past) → ⊥)) }
     {
         self.failures < u64::MAX && !self.has_struck()
     }
@@ -124,7 +124,7 @@ impl Device {
     fn count(&mut self, slots: &BTreeMap<u64, MemSlot>)
         ensures failures { self.new.failures ≡ self.old.failures }
         ensures past { self.new.past ≡ slots.now.entries ∷ self.old.past }
-        ensures marks { self.new.marks ≡ self.old.marks }
+        ensures incidents { self.new.incidents ≡ self.old.incidents }
     {
         self.history = self.history.with(slots);
         self.fault = match self.fault {
@@ -137,13 +137,13 @@ impl Device {
     pub fn crash(&mut self, slots: &BTreeMap<u64, MemSlot>, junk: Junk)
         ensures failures { self.new.failures ≡ self.old.failures }
         ensures past { self.new.past ≡ slots.now.entries ∷ self.old.past }
-        ensures marks { self.new.marks ≡
-            (length self.old.past, Mark.Crashed junk) ∷ self.old.marks }
+        ensures incidents { self.new.incidents ≡
+            (length self.old.past, Incident.Crashed junk) ∷ self.old.incidents }
     {
-        let mark = Mark::Crashed(junk);
-        self.marked = self.marked.with(&Marked {
+        let incident = Incident::Crashed(junk);
+        self.occurred = self.occurred.with(&DatedIncident {
             at: self.history.copy(),
-            mark,
+            incident,
         });
         self.fault = None;
         self.count(slots);

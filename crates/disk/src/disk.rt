@@ -4,7 +4,7 @@ ghost use Rattle.std.specs.Prelude.{ℕ, List, length, IsErrOf, IsTrue, ◌↔�
 ghost use Rattle.disk.specs.States.{State, IsSame, IsSameBut};
 ghost use Rattle.disk.specs.Calls.{BegunWrite, CallKeeps, EndsOutOfRange};
 ghost use Rattle.disk.specs.Calls.{FilesAnswer, LengthAnswer, ReadAnswer};
-ghost use Rattle.disk.specs.Faults.{CallPasses, Marks, fault_of};
+ghost use Rattle.disk.specs.Faults.{CallPasses, Incidents, fault_of};
 ghost use Rattle.disk.specs.Calls.{WriteOutcome, CutOutcome, SyncOutcome, RemoveOutcome};
 
 use crate::DiskError;
@@ -39,7 +39,7 @@ pub trait Disk {
 
     /// The faults that it was armed with and the crashes, the latest first, each with the length
     /// that the past had then.
-    ghost marks: { Self → Marks };
+    ghost incidents: { Self → Incidents };
 
     /// Whether `length`, `read`, `sync` and `remove` may allocate memory; `files`, `write_at` and
     /// `cut` always may.
@@ -47,34 +47,34 @@ pub trait Disk {
 
     /// The numbers of the existing files, in ascending order.
     fn files(&mut self) -> Result<Vec<u64>, DiskError>
-        ensures kept { CallKeeps is_honest state failures is_reliable past marks self.old
+        ensures kept { CallKeeps is_honest state failures is_reliable past incidents self.old
             self.new result ⊥ IsSame }
         ensures files { is_honest self.old → FilesAnswer (state self.old) result }
         ensures passes { is_honest self.old → CallPasses (past self.old) (past self.new)
-            (fault_of (marks self.old)) (is_reliable self.old) result (state self.old)
+            (fault_of (incidents self.old)) (is_reliable self.old) result (state self.old)
             (state self.new)
             (λ _. IsSame (state self.old)) };
 
     /// The length of the file in bytes.
     fn length(&mut self, file: u64) -> Result<u64, DiskError>
-        ensures kept { CallKeeps is_honest state failures is_reliable past marks self.old
+        ensures kept { CallKeeps is_honest state failures is_reliable past incidents self.old
             self.new result ⊥ IsSame }
         ensures memory { IsErrOf result DiskError.Memory → allocates }
         ensures length { is_honest self.old → LengthAnswer (state self.old) file result }
         ensures passes { is_honest self.old → CallPasses (past self.old) (past self.new)
-            (fault_of (marks self.old)) (is_reliable self.old) result (state self.old)
+            (fault_of (incidents self.old)) (is_reliable self.old) result (state self.old)
             (state self.new)
             (λ _. IsSame (state self.old)) };
 
     /// Fills the buffer with the bytes from a place on. After a refusal its content is unspecified.
     fn read(&mut self, file: u64, at: u64, into: &mut [u8]) -> Result<(), DiskError>
-        ensures kept { CallKeeps is_honest state failures is_reliable past marks self.old
+        ensures kept { CallKeeps is_honest state failures is_reliable past incidents self.old
             self.new result ⊥ IsSame }
         ensures memory { IsErrOf result DiskError.Memory → allocates }
         ensures reads { is_honest self.old →
             ReadAnswer (state self.old) file at (length into.old) result into.new }
         ensures passes { is_honest self.old → CallPasses (past self.old) (past self.new)
-            (fault_of (marks self.old)) (is_reliable self.old) result (state self.old)
+            (fault_of (incidents self.old)) (is_reliable self.old) result (state self.old)
             (state self.new)
             (λ _. IsSame (state self.old)) };
 
@@ -82,49 +82,49 @@ pub trait Disk {
     /// file. A write that would end past place 2^63 - 1 fails, and leaves a reliable disk as it
     /// was.
     fn write_at(&mut self, file: u64, at: u64, bytes: &[u8]) -> Result<(), DiskError>
-        ensures kept { CallKeeps is_honest state failures is_reliable past marks self.old
+        ensures kept { CallKeeps is_honest state failures is_reliable past incidents self.old
             self.new result (EndsOutOfRange at (length bytes.now)) (IsSameBut file) }
         ensures untouched { is_honest self.old → is_reliable self.old →
             EndsOutOfRange at (length bytes.now) → IsSame (state self.old) (state self.new) }
         ensures writes { is_honest self.old →
             WriteOutcome (state self.old) file at bytes.now result (state self.new) }
         ensures passes { is_honest self.old → CallPasses (past self.old) (past self.new)
-            (fault_of (marks self.old)) (is_reliable self.old) result (state self.old)
+            (fault_of (incidents self.old)) (is_reliable self.old) result (state self.old)
             (state self.new)
             (BegunWrite (state self.old) file at bytes.now) };
 
     /// Truncates the file to a length.
     fn cut(&mut self, file: u64, length: u64) -> Result<(), DiskError>
-        ensures kept { CallKeeps is_honest state failures is_reliable past marks self.old
+        ensures kept { CallKeeps is_honest state failures is_reliable past incidents self.old
             self.new result ⊥ (IsSameBut file) }
         ensures cuts { is_honest self.old →
             CutOutcome (state self.old) file length result (state self.new) }
         ensures passes { is_honest self.old → CallPasses (past self.old) (past self.new)
-            (fault_of (marks self.old)) (is_reliable self.old) result (state self.old)
+            (fault_of (incidents self.old)) (is_reliable self.old) result (state self.old)
             (state self.new)
             (CutOutcome (state self.old) file length) };
 
     /// Makes the file durable: a crash leaves exactly the bytes that a read returns.
     fn sync(&mut self, file: u64) -> Result<(), DiskError>
-        ensures kept { CallKeeps is_honest state failures is_reliable past marks self.old
+        ensures kept { CallKeeps is_honest state failures is_reliable past incidents self.old
             self.new result ⊥ (IsSameBut file) }
         ensures memory { IsErrOf result DiskError.Memory → allocates }
         ensures syncs { is_honest self.old →
             SyncOutcome (state self.old) file result (state self.new) }
         ensures passes { is_honest self.old → CallPasses (past self.old) (past self.new)
-            (fault_of (marks self.old)) (is_reliable self.old) result (state self.old)
+            (fault_of (incidents self.old)) (is_reliable self.old) result (state self.old)
             (state self.new)
             (λ _. IsSame (state self.old)) };
 
     /// Removes the file. Until the next crash, a file that was synced may reappear after a crash.
     fn remove(&mut self, file: u64) -> Result<(), DiskError>
-        ensures kept { CallKeeps is_honest state failures is_reliable past marks self.old
+        ensures kept { CallKeeps is_honest state failures is_reliable past incidents self.old
             self.new result ⊥ (IsSameBut file) }
         ensures memory { IsErrOf result DiskError.Memory → allocates }
         ensures removes { is_honest self.old →
             RemoveOutcome (state self.old) file result (state self.new) }
         ensures passes { is_honest self.old → CallPasses (past self.old) (past self.new)
-            (fault_of (marks self.old)) (is_reliable self.old) result (state self.old)
+            (fault_of (incidents self.old)) (is_reliable self.old) result (state self.old)
             (state self.new)
             (RemoveOutcome (state self.old) file) };
 }

@@ -34,14 +34,14 @@ impl Model for MemDisk {
       slots = disk.slots.entries;
       failures = disk.device.failures;
       past = disk.device.past;
-      marks = disk.device.marks;
+      incidents = disk.device.incidents;
     } };
 
     ghost invariant = { λ disk. IsMemory (record {
       slots = disk.slots.entries;
       failures = disk.device.failures;
       past = disk.device.past;
-      marks = disk.device.marks;
+      incidents = disk.device.incidents;
     }) };
 }
 
@@ -52,7 +52,7 @@ impl MemDisk {
         ensures count { result.failures ≡ 0 }
         ensures reliable { IsReliable result }
         ensures past { result.past ≡ result.slots ∷ [] }
-        ensures marks { result.marks ≡ [] }
+        ensures incidents { result.incidents ≡ [] }
     {
         let slots = BTreeMap::new(alloc);
         let device = Device::new(&slots);
@@ -69,7 +69,7 @@ impl MemDisk {
             IsSame (state_of self.now.slots) (state_of disk.slots)) }
         ensures count { IfOk result (λ disk. disk.failures ≡ self.now.failures) }
         ensures fault { IfOk result (λ disk.
-            (disk.past ≡ self.now.past) × (disk.marks ≡ self.now.marks)) }
+            (disk.past ≡ self.now.past) × (disk.incidents ≡ self.now.incidents)) }
     {
         Ok(MemDisk {
             alloc: self.alloc,
@@ -238,7 +238,7 @@ impl Disk for MemDisk {
 
     ghost past = { past_states };
 
-    ghost marks = { λ disk. disk.marks };
+    ghost incidents = { λ disk. disk.incidents };
 
     ghost allocates = { ⊥ };
 

@@ -61,12 +61,32 @@ fn edit_of(rt: &impl Abort, alloc: Global, key: &[u8], value: Option<&[u8]>) -> 
 
 pub type Edits<'a> = &'a [(&'a [u8], Option<&'a [u8]>)];
 
-pub fn batch_of(rt: &impl Abort, alloc: Global, edits: Edits) -> Batch {
+fn edits_of(rt: &impl Abort, alloc: Global, edits: Edits) -> Vec<Edit> {
     let mut list = Vec::new(alloc);
     for (key, value) in edits {
         put(rt, &mut list, edit_of(rt, alloc, *key, *value));
     }
-    Batch::new(list).expect(rt, "a batch")
+    list
+}
+
+pub fn batch_of(rt: &impl Abort, alloc: Global, edits: Edits) -> Batch {
+    Batch::new(edits_of(rt, alloc, edits)).expect(rt, "a batch")
+}
+
+/// The client and the request of a mark.
+pub type Marking = (u64, u64);
+
+/// The batch of these edits with this mark, or without one, if that is a batch.
+pub fn try_batch(mark: Option<Marking>, edits: Vec<Edit>) -> Result<Batch, KvError> {
+    match mark {
+        Some((client, request)) => Batch::marked(client, request, edits),
+        None => Batch::new(edits),
+    }
+}
+
+/// The batch of these edits with this mark.
+pub fn marked_of(rt: &impl Abort, alloc: Global, mark: Marking, edits: Edits) -> Batch {
+    try_batch(Some(mark), edits_of(rt, alloc, edits)).expect(rt, "a batch")
 }
 
 fn long_put(rt: &impl Abort, alloc: Global, key: usize, value: usize) -> Edit {
@@ -77,19 +97,21 @@ fn long_put(rt: &impl Abort, alloc: Global, key: usize, value: usize) -> Edit {
 pub fn long_batch(
     rt: &impl Abort,
     alloc: Global,
+    mark: Option<Marking>,
     lens: &[(usize, usize)],
 ) -> Result<Batch, KvError> {
     let mut edits = Vec::new(alloc);
     for (key, value) in lens {
         put(rt, &mut edits, long_put(rt, alloc, *key, *value));
     }
-    Batch::new(edits)
+    try_batch(mark, edits)
 }
 
 /// The batch of this many deletions of this key, if that is one.
 pub fn deletions(
     rt: &impl Abort,
     alloc: Global,
+    mark: Option<Marking>,
     key: &[u8],
     count: usize,
 ) -> Result<Batch, KvError> {
@@ -97,10 +119,10 @@ pub fn deletions(
     for _ in 0..count {
         put(rt, &mut edits, Edit::Delete(key_of(rt, alloc, key)));
     }
-    Batch::new(edits)
+    try_batch(mark, edits)
 }
 
 /// The batch of one deletion of this key.
 pub fn deletion(rt: &impl Abort, alloc: Global, key: &[u8]) -> Batch {
-    deletions(rt, alloc, key, 1).expect(rt, "a batch")
+    deletions(rt, alloc, None, key, 1).expect(rt, "a batch")
 }

@@ -25,6 +25,8 @@ mod log_texts;
 #[cfg(test)]
 mod logs;
 #[cfg(test)]
+mod ranges;
+#[cfg(test)]
 mod scratch_folders;
 #[cfg(test)]
 mod sequence;

@@ -1,6 +1,6 @@
 // Limits and numbers at their ends.
 use crate::cases::{Case, all_hold, is_so};
-use kv_types::{Limits, Number};
+use kv_types::{KvError, Limits, Number};
 use std::alloc::Global;
 use std::process::Abort;
 
@@ -70,4 +70,23 @@ static NUMBERS: [Numeral; 4] = [
 #[test]
 fn numbers_up_to_the_greatest(rt: HostRuntime) {
     all_hold(&rt, rt.alloc(), &NUMBERS);
+}
+
+/// The numbers of the refusals.
+static REFUSAL_NUMBERS: [u8; 9] = [
+    KvError::KeyTooLong as u8,
+    KvError::ValueTooLong as u8,
+    KvError::NoEdits as u8,
+    KvError::TooManyEdits as u8,
+    KvError::BatchTooLong as u8,
+    KvError::BadBytes as u8,
+    KvError::Memory as u8,
+    KvError::BadLimit as u8,
+    KvError::BadMark as u8,
+];
+
+#[test]
+fn refusals_have_their_numbers(rt: HostRuntime) {
+    let are_so = REFUSAL_NUMBERS == [1, 2, 3, 4, 5, 6, 7, 8, 9];
+    is_so(&rt, are_so, "other numbers");
 }

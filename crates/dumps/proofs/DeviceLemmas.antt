@@ -50,21 +50,22 @@ refused_so P Q (Err x) error same so = subst Q (sym same) so
 -- a read that is refused is so of a store that was created
 pub read_of_opened : (T : Type 0) (told : LookUps) (at : ℕ) (e : EngineError) →
     IsReadableAnswer {T = T} told at (Err e) → IsOfOpened (Store (engine_stop e))
-read_of_opened T told at engine.Disk answer is = cc
-read_of_opened T told at engine.Damaged answer is = cc
-read_of_opened T told at engine.Memory answer is = cc
-read_of_opened T told at engine.NotCreated answer is = absurd answer
-read_of_opened T told at engine.Failed answer is = cc
-read_of_opened T told at engine.TooOld answer is = cc
-read_of_opened T told at engine.NotCommitted answer is = cc
-read_of_opened T told at engine.NoSuchSnapshot answer is = absurd answer
-read_of_opened T told at engine.TooManySnapshots answer is = absurd answer
-read_of_opened T told at engine.Exhausted answer is = absurd answer
+read_of_opened T told at engine.Disk answer = (λ is. cc, λ is. cc)
+read_of_opened T told at engine.Damaged answer = (λ is. cc, λ is. cc)
+read_of_opened T told at engine.Memory answer = (λ is. cc, λ is. cc)
+read_of_opened T told at engine.NotCreated answer = absurd answer
+read_of_opened T told at engine.Failed answer = (λ is. cc, λ is. cc)
+read_of_opened T told at engine.TooOld answer = (λ is. cc, λ is. cc)
+read_of_opened T told at engine.NotCommitted answer = (λ is. cc, λ is. cc)
+read_of_opened T told at engine.NoSuchSnapshot answer = absurd answer
+read_of_opened T told at engine.TooManySnapshots answer = absurd answer
+read_of_opened T told at engine.Exhausted answer = absurd answer
+read_of_opened T told at engine.OldFormat answer = absurd answer
 
 -- so is a refusal for memory, or of the output
 pub output_of_opened : (error : DumpError) → IsOfOutput error → IsOfOpened error
-output_of_opened error (inl is) none = cc
-output_of_opened error (inr is) none = cc
+output_of_opened error (inl is) = (λ none. cc, λ old. cc)
+output_of_opened error (inr is) = (λ none. cc, λ old. cc)
 
 -- such a refusal is none of the device
 pub output_not_of_device : (error : DumpError) → IsOfOutput error → error ≡ Store stop.Disk → ⊥
@@ -74,14 +75,14 @@ output_not_of_device error (inr is) fails = cc
 -- a refusal for a last row is one of a store that was created
 pub last_of_opened : {P : Type 0} (error : DumpError) →
     (error ≡ Store stop.Memory) ⊎ ((error ≡ Store stop.Damaged) × P) → IsOfOpened error
-last_of_opened error (inl is) none = cc
-last_of_opened error (inr is) none = let damaged = is.0 in cc
+last_of_opened error (inl is) = (λ none. cc, λ old. cc)
+last_of_opened error (inr is) = let damaged = is.0 in (λ none. cc, λ old. cc)
 
 -- so is one that is passed on
 pub opened_as_passed : {T : Type 0} (result : Result T DumpError) (error : DumpError) →
     IsErrAnd result (λ x. x ≡ error) → IsOfOpened error → IfErr result IsOfOpened
 opened_as_passed (Ok x) error same is = tt
-opened_as_passed (Err x) error same is = λ none. is (sym same ∙ none)
+opened_as_passed (Err x) error same is = subst IsOfOpened (sym same) is
 
 -- so is any other refusal of a dump
 pub refused_as_passed : {T : Type 0} (result : Result T DumpError) (error : DumpError) →
@@ -148,6 +149,7 @@ of_device engine.NotCommitted error is = (λ fails. cc, λ fails. cc)
 of_device engine.NoSuchSnapshot error is = (λ fails. cc, λ fails. cc)
 of_device engine.TooManySnapshots error is = (λ fails. cc, λ fails. cc)
 of_device engine.Exhausted error is = (λ fails. cc, λ fails. cc)
+of_device engine.OldFormat error is = (λ fails. cc, λ fails. cc)
 
 -- why an engine was not opened, a dump tells too
 pub unopened : (left : Contents) (e : EngineError) → ExplainsRefusal e left →
@@ -162,6 +164,7 @@ unopened left engine.NotCommitted why = absurd why
 unopened left engine.NoSuchSnapshot why = absurd why
 unopened left engine.TooManySnapshots why = absurd why
 unopened left engine.Exhausted why = absurd why
+unopened left engine.OldFormat why = why
 
 -- ---- the device
 

@@ -30,9 +30,9 @@ edit_of_one : (list : List BatchContent) (edit : Edit) → AllByRecursion IsBatc
     Among edit (joined list) → IsEdit edit
 edit_of_one [] edit each among = absurd among
 edit_of_one (batch ∷ list) edit each among =
-    elim (among_cases batch (joined list) edit
+    elim (among_cases (edits_of batch) (joined list) edit
     (subst (Among edit) (flat_map-cons edits_of batch list) among)) [
-      | inl a ↦ among_of_All IsEdit batch edit each.0.each a
+      | inl a ↦ among_of_All IsEdit (edits_of batch) edit each.0.each a
       | inr b ↦ edit_of_one list edit each.1 b
     ]
 

@@ -7,8 +7,8 @@ use Rattle.std.specs.Io.KnownBytes.{Appends}
 use Rattle.disk.specs.declared.Disk.{Ghosts}
 use Rattle.engine.specs.declared.Engine.{Engine}
 use Rattle.engine.specs.{engine_disk, look_ups}
+use Rattle.byte_fields.specs.Order.{IsBelow, IsStrictOrder}
 use Rattle.kv_types.specs.{Row}
-use Rattle.kv_types.specs.Order.{IsBelow, IsStrictOrder}
 use Rattle.kv_types.specs.Pages.{IsPage, PagesAgree, page_of}
 use Rattle.kv_types.specs.{BatchContent, Rows, map_of}
 use Rattle.client.specs.PrintedRuns.{AppendsPart}

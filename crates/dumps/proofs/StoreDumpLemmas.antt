@@ -252,7 +252,10 @@ dumped_some IsShown AreCounts facts count old new (Err e) levels opened begun = 
   levels = levels begun.tables begun.counts;
   rows = begun.rows;
   cut = begun.cut;
-  none = λ is. absurd (opened is);
+  none = λ is. elim is [
+    | inl created ↦ absurd (opened.0 created)
+    | inr format ↦ absurd (opened.1 format)
+  ];
 }
 
 -- of a list that is shown

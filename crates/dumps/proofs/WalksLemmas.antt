@@ -2,8 +2,8 @@
 use Rattle.std.proofs.Common.{◌≡◌, ◌⊎◌, inl, inr, ℕ, List, [], ◌∷◌, ◌++◌, drop, false}
 use Rattle.std.proofs.Common.{refl, sym, ap, subst, ◌∙◌, append_assoc, append-nil}
 use Rattle.std.proofs.Common.{Bool, IsTrue, ◌↔◌, ◌≢◌, true≢false}
+use Rattle.byte_fields.specs.Order.{IsBelow, IsStrictOrder}
 use Rattle.kv_types.specs.{Row}
-use Rattle.kv_types.specs.Order.{IsBelow, IsStrictOrder}
 use Rattle.kv_types.specs.OrderLemmas.{Among, All-among, AllPairs-rises, Contains-among, Rises}
 use Rattle.kv_types.specs.OrderLemmas.{among_from_Contains, among_of_All, rises_from_AllPairs}
 use Rattle.kv_types.specs.OrderLemmas.{same_list}

@@ -12,7 +12,8 @@ use Rattle.disk.specs.declared.Disk.{Ghosts}
 use Rattle.engine.specs.declared.Engine.{Engine}
 use Rattle.manifest.specs.{ManifestRepresents, NodeVersion}
 use Rattle.engine.specs.{AreAlone, AreReadAlike, AreShut, EngineReads, EngineWasMeant, Facts}
-use Rattle.engine.specs.{FilesRepresent, IsDamaged, IsNotCreated, IsOwned, SparesNamed, WereMeant}
+use Rattle.engine.specs.{FilesRepresent, IsDamaged, IsNotCreated, IsOldStore, IsOwned, SparesNamed}
+use Rattle.engine.specs.{WereMeant}
 use Rattle.engine.specs.{kept_files, table_count}
 use Rattle.node.specs.declared.stop.Stop.TheVariants as stop
 use Rattle.client.specs.PrintedRuns.{AppendsPart}
@@ -177,8 +178,12 @@ pub record IsSomeDump (old new : Option (List ℕ)) : Type 0 where
   pub rows : List Row
   pub wrote : Appends old new (dump_text facts count tables rows)
 
+-- no store was created, or one of the old format
+abbrev pub IsOfUnopened : DumpError → Type 0
+IsOfUnopened error = (error ≡ Store stop.NotCreated) ⊎ (error ≡ Store stop.OldFormat)
+
 -- A beginning of the text of some store was written before a refusal for this: nothing, where that
--- is that no store was created.
+-- is that no store was created, or one of the old format.
 pub record IsSomeBegun (old new : Option (List ℕ)) (error : DumpError) : Type 0 where
   pub facts : Facts
   pub count : ℕ
@@ -186,7 +191,7 @@ pub record IsSomeBegun (old new : Option (List ℕ)) (error : DumpError) : Type 
   pub levels : length tables ≡ 7
   pub rows : List Row
   pub cut : IsCutText facts count tables rows old new error
-  pub none : error ≡ Store stop.NotCreated → new ≡ old
+  pub none : IsOfUnopened error → new ≡ old
 
 -- ---- refusals
 
@@ -198,9 +203,9 @@ IsOfOutput error = (error ≡ Store stop.Memory) ⊎ (error ≡ Write)
 abbrev pub IsDumpRefusal : DumpError → Type 0
 IsDumpRefusal error = (error ≡ Store stop.Disk) ⊎ IsOfOutput error
 
--- refused for anything but that no store was created
+-- refused for anything but that no store was created, or one of the old format
 abbrev pub IsOfOpened : DumpError → Type 0
-IsOfOpened error = error ≡ Store stop.NotCreated → ⊥
+IsOfOpened error = (error ≡ Store stop.NotCreated → ⊥) × (error ≡ Store stop.OldFormat → ⊥)
 
 -- a text was refused: nothing of it was written, where memory was short; or a beginning of it,
 -- where the output took no more
@@ -225,6 +230,7 @@ UnopenedRefusal left (Store stop.Disk) = Unit {0}
 UnopenedRefusal left (Store stop.Damaged) = IsDamaged left
 UnopenedRefusal left (Store stop.Memory) = Unit {0}
 UnopenedRefusal left (Store stop.NotCreated) = IsNotCreated left
+UnopenedRefusal left (Store stop.OldFormat) = IsOldStore left
 UnopenedRefusal left Write = ⊥
 
 -- No store was opened, the content of the disk explains it, and nothing was written. A disk whose

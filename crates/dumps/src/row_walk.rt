@@ -12,11 +12,12 @@ ghost use Rattle.dumps.specs.Dumped.{AreAllWritten, AreBegun, DiskIsOnlyRead, Is
 ghost use Rattle.dumps.specs.Dumped.{IsOfOpened, ShowsList, StillShows, row_line};
 
 use crate::dump_error::DumpError;
+use byte_fields::laws::byte_order_is_strict;
 use client::{RowText, print};
 use disk::Disk;
 use engine::Engine;
 use kv_types::bounds::MAX_ROWS;
-use kv_types::laws::{byte_order_is_strict, maps_agree, pages_agree};
+use kv_types::laws::{maps_agree, pages_agree};
 use kv_types::{Key, Number, Page, Range, Row};
 use node::Stop;
 use std::alloc::{AllocError, Global};
@@ -89,7 +90,7 @@ fn last_key(alloc: Global, rows: &[Row]) -> Result<Key, DumpError>
         ⊎ ((error ≡ Store stop.Damaged) × (length rows.now ≡ 0))) }
 {
     match rows.split_last() {
-        Some((last, _front)) => Ok(last.key().to_stored(alloc)?),
+        Some((last, _front)) => Ok(last.to_key(alloc)?),
         None => Err(DumpError::Store(Stop::Damaged)),
     }
 }

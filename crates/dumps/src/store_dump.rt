@@ -143,7 +143,7 @@ pub fn dump_store<D: Disk + Drop, W: Write>(
     ensures device { LeavesDevice D.Disk disk result }
 
     // No file is changed behind the opening, also where a crash cuts the dump short. A store that
-    // was opened is not refused as one that was not created.
+    // was opened is not refused as one that was not created, or of the old format.
     ensures files { ReturnsFiles D.Disk disk (W.contents out.old) (W.contents out.new) result }
 {
     pages_agree(); // law: a map has a page in each range

@@ -3,6 +3,9 @@ use Rattle.std.proofs.Common.{◌≡◌, ◌≤◌, ◌+◌, ◌⊎◌, inl, inr
 use Rattle.std.proofs.Common.{◌∷◌, ◌++◌, ◌∙◌, length, Option, Some, None, arith, refl, sym, subst}
 use Rattle.std.specs.List.{All, slice_get}
 use Rattle.std.specs.Prelude.{Result, Ok, Err, IfOk}
+use Rattle.byte_fields.specs.declared.stored_key.TheConstants.{MAX_KEY}
+use Rattle.byte_fields.specs.Order.{IsBelow}
+use Rattle.byte_fields.specs.ByteOrderLemmas.{below_is_strict}
 use Rattle.kv_types.specs.{Row}
 use Rattle.std.proofs.lemmas.List.Elements.{Contains-append_cases}
 use Rattle.kv_types.specs.Content.{edits_of}
@@ -11,9 +14,7 @@ use Rattle.kv_types.specs.Spelling.{IsEdit}
 use Rattle.kv_types.specs.declared.edit.Edit.{Edit}
 use Rattle.kv_types.specs.declared.edit.Edit.TheVariants.{Put}
 use Rattle.kv_types.specs.{BatchContent, IsBatch, Span, map_of, row_size}
-use Rattle.kv_types.specs.declared.bounds.TheConstants.{MAX_KEY, MAX_VALUE, ROW_OVERHEAD}
-use Rattle.kv_types.specs.Order.{IsBelow}
-use Rattle.kv_types.specs.ByteOrderLemmas.{below_is_strict}
+use Rattle.kv_types.specs.declared.bounds.TheConstants.{MAX_VALUE, ROW_OVERHEAD}
 use Rattle.kv_types.specs.OrderLemmas.{Among, Contains-among, among_from_Contains, among_of_All}
 use Rattle.kv_types.specs.Pages.{IsRowOf, IsWithin, Map, PrecedesRow}
 use Rattle.disk.specs.declared.Disk.{Ghosts}

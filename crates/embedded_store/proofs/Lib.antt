@@ -5,3 +5,6 @@ pub mod StoreReads
 pub mod StoreWrites
 pub mod PageRows
 pub mod Cursors
+pub mod Endings
+pub mod Recency
+pub mod Once

@@ -25,7 +25,7 @@ use Rattle.embedded_store.specs.declared.error.OpenError.TheVariants.{Store}
 use Rattle.embedded_store.specs.declared.store.EmbeddedStore.{EmbeddedStore}
 use Rattle.manifest.specs.declared.TableLine.{TableLine}
 use Rattle.manifest.specs.{HasOnlyCreationFiles, ManifestRepresents, NodeVersion}
-use Rattle.manifest.specs.{VersionIsOne, VersionsAreLawful, WasCutShort}
+use Rattle.manifest.specs.{OldStoresAreApart, VersionIsOne, VersionsAreLawful, WasCutShort}
 use Rattle.manifest.specs.Laws.{VersionsAreCreated}
 use Rattle.manifest.specs.Lawful.{IsAllocated}
 use Rattle.manifest.specs.Slots.{IsClosedOrAbsent}
@@ -276,17 +276,18 @@ module _ {D : Type 0} (g : Ghosts D) where
       }
 
   -- a refusal, where nothing is created
-  pub refused_opens : (disk after : D) (left : Contents) (e : EngineError) (s : OpenError) →
-      s ≡ Store e → ((facts : Facts) (list : List BatchContent) → FilesRepresent facts list left →
+  pub refused_opens : OldStoresAreApart → (disk after : D) (left : Contents) (e : EngineError)
+      (s : OpenError) → s ≡ Store e →
+      ((facts : Facts) (list : List BatchContent) → FilesRepresent facts list left →
       IsEnvironmental engine.Disk engine.Memory e) → ExplainsRefusal e left →
       (e ≡ engine.NotCreated → HasOnlyCreationFiles left → ⊥) →
       ((facts : Facts) (list : List BatchContent) (facts' : Facts) (list' : List BatchContent) →
       StillLeavesOneOf g disk after facts list facts' list') →
       OpensContents g disk left (Err (s, after))
-  refused_opens disk after left e s is refuses why taken leaves = record {
+  refused_opens apart disk after left e s is refuses why taken leaves = record {
     opened = λ facts list files. inl (store_external e s is (refuses facts list files));
     meant = λ facts list files. tt;
-    created = λ cut. store_external e s is (refused_externally left e why taken cut);
+    created = λ cut. store_external e s is (refused_externally apart left e why taken cut);
     told = subst (ExplainsOpening left (g.state after)) (sym is)
         (explained left (g.state after) e why taken);
     any_moment = leaves;
@@ -299,19 +300,19 @@ module _ {D : Type 0} (g : Ghosts D) where
       ((facts : Facts) (list : List BatchContent) →
       FilesRepresent facts list (contents (g.state disk)) →
       IsEnvironmental engine.Disk engine.Memory e) → IsNotCreated (contents (g.state disk)) →
-      VersionsAreLawful → VersionsAreCreated →
+      VersionsAreLawful → VersionsAreCreated → OldStoresAreApart →
       ((at : State) → IsCrashOutcome at (contents at)) →
       ((facts : Facts) (list : List BatchContent) (facts' : Facts) (list' : List BatchContent) →
       StillLeavesOneOf g disk after facts list facts' list') →
       (IsTrue is_free → CreatesStore result) →
       (IsFalse is_free → result ≡ Err (Store engine.NotCreated, after)) →
       OpensContents g disk (contents (g.state disk)) result
-  free_opens disk after true e result is found refuses none lawful created reads leaves made
+  free_opens disk after true e result is found refuses none lawful created apart reads leaves made
       refused = creates_opens disk e result is refuses none lawful created (found.0 refl) reads
       (made refl)
-  free_opens disk after false e result is found refuses none lawful created reads leaves made
+  free_opens disk after false e result is found refuses none lawful created apart reads leaves made
       refused = subst (OpensContents g disk (contents (g.state disk))) (sym (refused refl))
-      (refused_opens disk after (contents (g.state disk)) engine.NotCreated
+      (refused_opens apart disk after (contents (g.state disk)) engine.NotCreated
       (Store engine.NotCreated) refl
       (λ facts list files. subst (IsEnvironmental engine.Disk engine.Memory) is
       (refuses facts list files)) none

@@ -5,12 +5,11 @@ use Rattle.std.proofs.Common.{subst, ◌∙◌, ap}
 use Rattle.std.specs.List.{slice_get}
 use Rattle.std.specs.Prelude.{IsSome}
 use Rattle.std.proofs.lemmas.Option.{slice_get_cases}
-use Rattle.kv_types.specs.{Row}
-use Rattle.kv_types.specs.{Span, row_size}
-use Rattle.kv_types.specs.declared.bounds.TheConstants.{MAX_KEY, MAX_PAGE, MAX_VALUE}
-use Rattle.kv_types.specs.declared.bounds.TheConstants.{ROW_OVERHEAD}
-use Rattle.kv_types.specs.Order.{IsBelow}
-use Rattle.kv_types.specs.ByteOrderLemmas.{below_is_strict}
+use Rattle.byte_fields.specs.declared.stored_key.TheConstants.{MAX_KEY}
+use Rattle.byte_fields.specs.Order.{IsBelow}
+use Rattle.byte_fields.specs.ByteOrderLemmas.{below_is_strict}
+use Rattle.kv_types.specs.{Row, Span, row_size}
+use Rattle.kv_types.specs.declared.bounds.TheConstants.{MAX_PAGE, MAX_VALUE, ROW_OVERHEAD}
 use Rattle.kv_types.specs.OrderLemmas.{Among, Rises, among_from_Contains, among_of_All}
 use Rattle.kv_types.specs.OrderLemmas.{rises_from_AllPairs}
 use Rattle.kv_types.specs.Pages.{IsFull, IsRowOf, IsWalk, IsWithin, Map, PrecedesRow}

@@ -10,7 +10,7 @@ use Rattle.engine.specs.{ExplainsRefusal, IsOpeningError}
 use Rattle.embedded_store.specs.declared.error.OpenError.{OpenError}
 use Rattle.embedded_store.specs.declared.error.OpenError.TheVariants.{OfChain, Store}
 use Rattle.embedded_store.specs.Errors.{disk_refusal}
-use Rattle.manifest.specs.{HasOnlyCreationFiles, WasCutShort}
+use Rattle.manifest.specs.{HasOnlyCreationFiles, OldStoresAreApart, WasCutShort}
 use Rattle.embedded_store.specs.Openings.{ExplainsOpening, IsOfDisk, IsOfEnvironment}
 use Rattle.embedded_store.specs.Openings.{IsOfNoStore}
 
@@ -42,7 +42,8 @@ look_external e s is (inr memory) = inr (is ∙ ap disk_refusal memory)
 -- of any disk, why an engine was not opened is why there is no store
 pub opening_refuses : (e : EngineError) (s : OpenError) → s ≡ Store e → IsOpeningError e →
     IsOfDisk s
-opening_refuses e s is (inr same) = inr (inr (inr (is ∙ ap Store same)))
+opening_refuses e s is (inr (inl same)) = inr (inr (inr (inl (is ∙ ap Store same))))
+opening_refuses e s is (inr (inr same)) = inr (inr (inr (inr (is ∙ ap Store same))))
 opening_refuses engine.Disk s is (inl ends) = inr (inl (inl is))
 opening_refuses engine.Memory s is (inl ends) = inr (inl (inr is))
 opening_refuses engine.Damaged s is (inl ends) = inr (inr (inl is))
@@ -68,17 +69,19 @@ explained left now engine.Disk why taken = tt
 explained left now engine.Damaged why taken = why
 explained left now engine.Memory why taken = tt
 explained left now engine.NotCreated why taken = (why, taken refl)
+explained left now engine.OldFormat why taken = why
 explained left now _ why taken = absurd why
 
 -- and where a creation was cut short, it is refused for the environment alone
-pub refused_externally : (left : Contents) (e : EngineError) → ExplainsRefusal e left →
-    (e ≡ engine.NotCreated → HasOnlyCreationFiles left → ⊥) → WasCutShort left →
-    IsEnvironmental engine.Disk engine.Memory e
-refused_externally left engine.Disk why taken cut = inl refl
-refused_externally left engine.Damaged why taken cut = absurd (why.created cut.0)
-refused_externally left engine.Memory why taken cut = inr refl
-refused_externally left engine.NotCreated why taken cut = absurd (taken refl cut.1)
-refused_externally left _ why taken cut = absurd why
+pub refused_externally : OldStoresAreApart → (left : Contents) (e : EngineError) →
+    ExplainsRefusal e left → (e ≡ engine.NotCreated → HasOnlyCreationFiles left → ⊥) →
+    WasCutShort left → IsEnvironmental engine.Disk engine.Memory e
+refused_externally apart left engine.Disk why taken cut = inl refl
+refused_externally apart left engine.Damaged why taken cut = absurd (why.created cut.0)
+refused_externally apart left engine.Memory why taken cut = inr refl
+refused_externally apart left engine.NotCreated why taken cut = absurd (taken refl cut.1)
+refused_externally apart left engine.OldFormat why taken cut = absurd ((apart left why).0 cut.0)
+refused_externally apart left _ why taken cut = absurd why
 
 -- a store that was not created is not refused for the environment
 pub not_external : (e : EngineError) → e ≡ engine.NotCreated →
@@ -91,14 +94,17 @@ not_external e is (inr memory) = cc
 -- the refusal of a chain's store is not for files that are none
 pub chain_is_store : (s : OpenError) → s ≡ OfChain → IsOfNoStore s → ⊥
 chain_is_store s is (inl damaged) = cc
-chain_is_store s is (inr none) = cc
+chain_is_store s is (inr (inl none)) = cc
+chain_is_store s is (inr (inr old)) = cc
 
 -- nor is one for the device or for memory
 pub external_is_store : (s : OpenError) → IsOfEnvironment s → IsOfNoStore s → ⊥
 external_is_store s (inl device) (inl damaged) = cc
-external_is_store s (inl device) (inr none) = cc
+external_is_store s (inl device) (inr (inl none)) = cc
+external_is_store s (inl device) (inr (inr old)) = cc
 external_is_store s (inr memory) (inl damaged) = cc
-external_is_store s (inr memory) (inr none) = cc
+external_is_store s (inr memory) (inr (inl none)) = cc
+external_is_store s (inr memory) (inr (inr old)) = cc
 
 -- and the engine's for such files is for neither
 pub files_not_external : (e : EngineError) (s : OpenError) → s ≡ Store e → IsOfNoStore s →

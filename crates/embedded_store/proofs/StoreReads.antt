@@ -103,7 +103,7 @@ read_refused {T = T} told at (Err e) ordered all answer sound works =
 -- ---- a write
 
 -- why a write is refused, of each list that is shown
-abbrev IsWriteRefusal : ℕ → EngineError → Type 0
+abbrev pub IsWriteRefusal : ℕ → EngineError → Type 0
 IsWriteRefusal count e = IsEnvironmental engine.Disk engine.Memory e
     ⊎ ((e ≡ engine.Exhausted) × (MAX_NUMBER ≤ count))
 

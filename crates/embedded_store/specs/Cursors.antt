@@ -3,11 +3,11 @@ use Rattle.std.specs.Prelude.{◌≡◌, ◌≢◌, ◌⊎◌, ◌+◌, ◌<◌,
 use Rattle.std.specs.Prelude.{Bool, true, false, length, Option, Some, None}
 use Rattle.std.specs.Prelude.{IsSome, Result, IfErr, IfOk, MatchResult}
 use Rattle.std.specs.List.{slice_get}
-use Rattle.kv_types.specs.{BatchContent, Rows, Span, map_of, row_size}
-use Rattle.kv_types.specs.{Row}
-use Rattle.kv_types.specs.Order.{IsBelow}
+use Rattle.byte_fields.specs.Order.{IsBelow}
+use Rattle.byte_fields.specs.declared.stored_key.TheConstants.{MAX_KEY}
+use Rattle.kv_types.specs.{BatchContent, Rows, Span, map_of, row_size, Row}
 use Rattle.kv_types.specs.Pages.{IsPage, Map, PrecedesRow}
-use Rattle.kv_types.specs.declared.bounds.TheConstants.{MAX_KEY, MAX_VALUE, ROW_OVERHEAD}
+use Rattle.kv_types.specs.declared.bounds.TheConstants.{MAX_VALUE, ROW_OVERHEAD}
 use Rattle.disk.specs.declared.Disk.{Ghosts}
 use Rattle.engine.specs.EngineError.{EngineError}
 use Rattle.engine.specs.EngineError.TheVariants as engine

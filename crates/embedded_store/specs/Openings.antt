@@ -8,8 +8,8 @@ use Rattle.manifest.specs.{HasOnlyCreationFiles, ManifestRepresents, WasCutShort
 use Rattle.engine.specs.EngineError.TheVariants as engine
 use Rattle.engine.specs.declared.Engine.{Engine}
 use Rattle.engine.specs.{AreAlone, Facts, FilesRepresent, HasFirstFiles, HasOnlyFiles, IsDamaged}
-use Rattle.engine.specs.{AreShut, IsNotCreated, IsOpened, IsOwned, OpensAs, StaysAsItWas}
-use Rattle.engine.specs.{SparesNamed, StillLeavesOneOf}
+use Rattle.engine.specs.{AreShut, IsNotCreated, IsOldStore, IsOpened, IsOwned, OpensAs}
+use Rattle.engine.specs.{SparesNamed, StaysAsItWas, StillLeavesOneOf}
 use Rattle.engine.specs.{engine_disk, engine_files, engine_version, facts_of, first_facts}
 use Rattle.engine.specs.{WereMeant, kept_files, look_ups, with_committed}
 use Rattle.embedded_store.specs.declared.error.OpenError.{OpenError}
@@ -30,9 +30,10 @@ IsOfEnvironment = IsEnvironmental (Store engine.Disk) (Store engine.Memory)
 abbrev pub IsOfFolder : OpenError → Type 0
 IsOfFolder e = (e ≡ InUse) ⊎ IsOfEnvironment e
 
--- refused for files that are none of a store
+-- refused for files that are none of a store, or those of one in the old format
 abbrev pub IsOfNoStore : OpenError → Type 0
 IsOfNoStore e = (e ≡ Store engine.Damaged) ⊎ (e ≡ Store engine.NotCreated)
+    ⊎ (e ≡ Store engine.OldFormat)
 
 -- refused for a disk, whatever it claims
 abbrev pub IsOfDisk : OpenError → Type 0
@@ -72,6 +73,7 @@ ExplainsOpening left now (Store engine.NotCommitted) = ⊥
 ExplainsOpening left now (Store engine.NoSuchSnapshot) = ⊥
 ExplainsOpening left now (Store engine.TooManySnapshots) = ⊥
 ExplainsOpening left now (Store engine.Exhausted) = ⊥
+ExplainsOpening left now (Store engine.OldFormat) = IsOldStore left
 
 module _ {D : Type 0} {g : Ghosts D} where
   -- the disk that an opening received: the store has it, or the refusal returns it

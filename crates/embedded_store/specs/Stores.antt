@@ -1,7 +1,7 @@
 -- A store that stands alone: the list of its batches, and what its calls make of it.
 use Rattle.std.specs.Prelude.{◌≡◌, ◌⊎◌, ℕ, ◌+◌, ◌<◌, List, [], ◌∷◌, ◌++◌, length, take, false}
 use Rattle.std.specs.Prelude.{Option, Some, None, Result, Ok, Err, IsErrOf, OnOk}
-use Rattle.kv_types.specs.{BatchContent, Span}
+use Rattle.kv_types.specs.{BatchContent, Span, stored_span}
 use Rattle.kv_types.specs.declared.Limits.{Limits}
 use Rattle.disk.specs.{AlwaysLeaves, IsEnvironmental, IsSameBut}
 use Rattle.disk.specs.declared.Disk.{Ghosts}
@@ -53,27 +53,39 @@ first_batches (Some at) list = take at list
 abbrev pub with_one_written : LookUps → LookUps
 with_one_written told = record told { count = told.count + 1; committed = told.count + 1 }
 
--- what a write of this batch promises
-pub record WritesBatch {D : Type 0} (g : Ghosts D) (old new : EmbeddedStore D g)
-    (batch : BatchContent) (result : Result ℕ EngineError) : Type 0 where
+-- What a call promises that writes a batch or none: which list the store holds behind an answer,
+-- and the longest that a crash leaves.
+pub record WritesAtMost {D T : Type 0} (g : Ghosts D) (old new : EmbeddedStore D g)
+    (result : Result T EngineError) (behind longest : List BatchContent → List BatchContent)
+    : Type 0 where
   -- no file but the newest log changes, and a device that works fails only where that is full
   pub keeps : KeepsEngine g (store_engine old) (store_engine new) result
       (HasNearlyFullLog (store_engine old)) (IsSameBut (newest_log_file (store_engine old)))
   -- the merge that is under way stays
   pub merging : MergeStays (store_engine old) (store_engine new)
-  -- behind an answer the store holds one batch more
+  -- behind an answer the store holds that list
   pub list : (list : List BatchContent) → HoldsBatches g old list →
-      OnOk result (HoldsBatches g new (list ++ batch ∷ []))
-  -- a crash at any moment, whatever the call answers, leaves the list with the batch or without it
+      OnOk result (HoldsBatches g new (behind list))
+  -- a crash at any moment, whatever the call answers, leaves the list as it was or the longest
   pub any_moment : (list : List BatchContent) → HoldsBatches g old list → IsOldOrNewSince g
       (store_disk old) (store_disk new) (facts_of (store_engine old)) list
-      (facts_of (store_engine old)) (list ++ batch ∷ [])
+      (facts_of (store_engine old)) (longest list)
   -- where blocks of tables are damaged, both are so of the list that was meant
   pub meant : (list : List BatchContent) → StoreWasMeant g old list →
-      OnOk result (StoreWasMeant g new (list ++ batch ∷ []))
+      OnOk result (StoreWasMeant g new (behind list))
   pub meant_at_any_moment : (list : List BatchContent) → StoreWasMeant g old list → AlwaysLeaves g
       (store_disk old) (store_disk new) (WereOneOf (facts_of (store_engine old)) list
-      (facts_of (store_engine old)) (list ++ batch ∷ []))
+      (facts_of (store_engine old)) (longest list))
+
+-- the list with this batch behind it
+abbrev pub with_batch : BatchContent → List BatchContent → List BatchContent
+with_batch batch list = list ++ batch ∷ []
+
+-- what a write of this batch promises
+abbrev pub WritesBatch : {D T : Type 0} (g : Ghosts D) → EmbeddedStore D g → EmbeddedStore D g →
+    BatchContent → Result T EngineError → Type 0
+WritesBatch g old new batch result =
+    WritesAtMost g old new result (with_batch batch) (with_batch batch)
 
 -- ---- reads
 
@@ -97,7 +109,7 @@ abbrev pub MeetsDamageIn : {D T : Type 0} (g : Ghosts D) → EmbeddedStore D g �
     Result T EngineError → Type 0
 MeetsDamageIn g store range result =
     (list : List BatchContent) → ShowsBatches g store list → IsErrOf result engine.Damaged →
-    OneIsDamagedIn range (g.state (store_disk store))
+    OneIsDamagedIn (stored_span range) (g.state (store_disk store))
     (engine_version (store_engine store)).version.tables
 
 -- ---- snapshots

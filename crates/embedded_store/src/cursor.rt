@@ -60,7 +60,7 @@ fn rows_beside(alloc: Global, row: &Row, backward: bool) -> Result<Range, Engine
     ensures { MatchResult result (λ range. range ≡ span_beside backward row.now)
         (λ e. e ≡ Memory) }
 {
-    let Ok(key) = row.key().to_stored(alloc) else {
+    let Ok(key) = row.to_key(alloc) else {
         return Err(EngineError::Memory);
     };
     if backward {

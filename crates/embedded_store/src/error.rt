@@ -1,7 +1,8 @@
-// Why a store was not opened.
+// Why a store was not opened, or a batch not written once.
 ghost use Rattle.std.specs.Prelude.{◌≡◌};
 ghost use Rattle.engine.specs.EngineError.TheVariants.{Memory};
 ghost use Rattle.embedded_store.specs.Errors.{disk_refusal, lock_refusal};
+ghost use Rattle.embedded_store.specs.declared.error.OnceError.TheVariants as once;
 ghost use Rattle.embedded_store.specs.declared.error.OpenError.TheVariants.{Store};
 
 use dir_disk::LockError;
@@ -11,7 +12,7 @@ use std::alloc::AllocError;
 use thiserror::Error;
 
 /// Why a store was not opened. A store that is there stays, also one of a chain, but for files that
-/// it does not name; behind `Damaged` and `NotCreated` every file does.
+/// it does not name; behind `Damaged`, `NotCreated` and `OldFormat` every file does.
 #[derive(Clone, Copy, Debug, PartialEq, Eq, Error)]
 pub enum OpenError {
     /// Another user has locked the folder.
@@ -20,8 +21,9 @@ pub enum OpenError {
     /// The files are those of a node of a chain of others.
     #[error("the store of a chain's node")]
     OfChain,
-    /// For the device, for want of memory, or for the files: `Damaged`, and `NotCreated` where no
-    /// store was created, and something is there.
+    /// For the device, for want of memory, or for the files: `Damaged`, `OldFormat` where they are
+    /// those of a store of the old format, and `NotCreated` where no store was created, and
+    /// something is there.
     #[error("{0}")]
     Store(EngineError),
 }
@@ -64,5 +66,24 @@ impl From<AllocError> for OpenError {
 
     fn from(_e: AllocError) -> OpenError {
         OpenError::Store(EngineError::Memory)
+    }
+}
+
+/// Why a batch was not written once. Behind `OldRequest` nothing is written.
+#[derive(Clone, Copy, Debug, PartialEq, Eq, Error)]
+pub enum OnceError {
+    /// The last mark of the client in the list is of a greater request.
+    #[error("an old request")]
+    OldRequest,
+    /// As a write is refused; or `Damaged`, where the mark would be in a damaged block of a table.
+    #[error("{0}")]
+    Store(EngineError),
+}
+
+impl From<EngineError> for OnceError {
+    ghost from_gives = { λ cause e. e ≡ once.Store cause };
+
+    fn from(cause: EngineError) -> OnceError {
+        OnceError::Store(cause)
     }
 }

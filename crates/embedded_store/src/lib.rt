@@ -7,9 +7,10 @@ mod error;
 mod folder;
 pub mod laws;
 mod opening;
+mod retrying;
 mod store;
 
 pub use cursor::RowCursor;
 pub use engine::{EngineError, MAX_SNAPSHOTS, Tended};
-pub use error::OpenError;
+pub use error::{OnceError, OpenError};
 pub use store::EmbeddedStore;

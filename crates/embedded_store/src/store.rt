@@ -23,6 +23,7 @@ pub struct EmbeddedStore<D: Disk + Drop> {
 impl<D: Disk + Drop> EmbeddedStore<D> {
     ghost use Rattle.std.specs.Prelude.{◌≡◌, ◌⊎◌, ◌≤◌, List, None, length};
     ghost use Rattle.std.specs.Prelude.{IfErr, IfOk, IsErrOf, MatchResult};
+    ghost use Rattle.byte_fields.specs.{row_key};
     ghost use Rattle.kv_types.specs.declared.bounds.TheConstants.{MAX_NUMBER};
     ghost use Rattle.kv_types.specs.{BatchContent, map_of};
     ghost use Rattle.kv_types.specs.Pages.{page_of};
@@ -97,11 +98,11 @@ impl<D: Disk + Drop> EmbeddedStore<D> {
             IfErr result (IsReadRefusal (look_ups (store_engine self.old)) at) }
         ensures damaged { (list : List BatchContent) → ShowsBatches D.Disk self.old list →
             IsErrOf result Damaged → OneNamedLacksBlock (D.state (store_disk self.old))
-            (engine_version (store_engine self.old)).version.tables key.now
+            (engine_version (store_engine self.old)).version.tables (row_key key.now)
             (read_number (look_ups (store_engine self.old)) at) }
         ensures memory { (list : List BatchContent) → ShowsBatches D.Disk self.old list →
             MemoryHas list (engine_version (store_engine self.old)).version.flushed
-            (read_number (look_ups (store_engine self.old)) at) key.now →
+            (read_number (look_ups (store_engine self.old)) at) (row_key key.now) →
             NeedsNoDisk (store_disk self.old) (store_disk self.new) result }
     {
         let at = self.number_of(at);

@@ -32,12 +32,18 @@ fn deleted_by(batch: u64) -> u64 {
     batch.wrapping_mul(5).wrapping_add(1) % KEYS
 }
 
+// Each second batch bears a mark. Its client has the bytes of the key behind the one that it puts.
 fn batch_at(rt: &impl Abort, alloc: Global, batch: u64) -> Batch {
     let value = value_of(rt, alloc, &batch.to_be_bytes());
     let put = Edit::Put(key_at(rt, alloc, put_by(batch)), value);
     let deletion = Edit::Delete(key_at(rt, alloc, deleted_by(batch)));
     let edits = done(rt, vec![in alloc; put, deletion]);
-    done(rt, Batch::new(edits))
+    let made = if batch % 2 == 0 {
+        Batch::new(edits)
+    } else {
+        Batch::marked(put_by(batch).wrapping_add(1), batch, edits)
+    };
+    done(rt, made)
 }
 
 /// What a plain map has of a key after so many batches.
@@ -98,7 +104,7 @@ pub fn agrees<D: Disk + Drop>(
 /// Whether this is the row of a key after so many batches.
 pub fn is_row(row: &Row, index: u64, count: u64) -> bool {
     let want = plain(index, count).unwrap_or(0);
-    is_same(row.key().as_bytes(), &index.to_be_bytes()) && is_same(row.value(), &want.to_be_bytes())
+    is_same(row.key(), &index.to_be_bytes()) && is_same(row.value(), &want.to_be_bytes())
 }
 
 // Whether these are the rows of the map after so many batches, in the order of their keys.

@@ -14,4 +14,6 @@ mod items;
 #[cfg(test)]
 mod openings;
 #[cfg(test)]
+mod retries;
+#[cfg(test)]
 mod scratch_folders;

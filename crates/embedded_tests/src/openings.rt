@@ -133,3 +133,40 @@ fn an_opening_creates_over_nothing_that_is_there(rt: HostRuntime) {
     let holds = answers(rt, alloc, disk, &[1, 2], DAMAGED);
     is_so(rt, holds, "a store without its log");
 }
+
+// A slot of the old format that counts, with a log without records: generation 1, node 1.
+const OLD_SLOT: &[u8] = b"\x01\x00\x00\x00\x00\x00\x00\x00\x01\x00\x01\x00";
+
+// The disk of a store of the old format, with a file that no opening knows.
+fn old_disk(rt: &impl Abort, alloc: Global) -> MemDisk {
+    let mut disk = disk_with(rt, alloc, 1, OLD_SLOT);
+    disk.write_at(2, 0, b"\x00").expect(rt, "a write");
+    disk.write_at(9, 0, b"\x07").expect(rt, "a write");
+    disk
+}
+
+// Whether the file has these bytes, which are at most 12.
+fn has_bytes(rt: &impl Abort, disk: &mut MemDisk, file: u64, want: &[u8]) -> bool {
+    let mut bytes = [0; 12];
+    let into = bytes.get_mut(..want.len()).expect(rt, "at most 12 bytes");
+    disk.read(file, 0, into).expect(rt, "a read");
+    *into == *want && disk.length(file) == Ok(want.len() as u64)
+}
+
+#[test]
+fn a_store_of_the_old_format_is_left(rt: HostRuntime) {
+    let (rt, alloc) = (&rt, rt.alloc());
+    match EmbeddedStore::over(alloc, old_disk(rt, alloc), &limits(rt)) {
+        Ok(store) => {
+            store.close();
+            is_so(rt, false, "a refusal");
+        }
+        Err((error, mut disk)) => {
+            let old = error == OpenError::Store(EngineError::OldFormat);
+            is_so(rt, old, "the old format");
+            is_so(rt, has_bytes(rt, &mut disk, 1, OLD_SLOT), "its slot");
+            is_so(rt, has_bytes(rt, &mut disk, 2, b"\x00"), "its other slot");
+            is_so(rt, has_bytes(rt, &mut disk, 9, b"\x07"), "a file beside");
+        }
+    }
+}

@@ -7,7 +7,8 @@ use Rattle.std.specs.Option.{option_and_then, option_map}
 use Rattle.std.specs.Prelude.{All, IfOk, MatchResult}
 use Rattle.disk.specs.{Contents, IsEnvironmental, State, contents}
 use Rattle.disk.specs.declared.Disk.{Ghosts}
-use Rattle.kv_types.specs.{BatchContent, StoredKey}
+use Rattle.byte_fields.specs.{StoredKey}
+use Rattle.kv_types.specs.{BatchContent}
 use Rattle.version_edits.specs.declared.TableLine.{TableLine}
 use Rattle.version_edits.specs.{StoreVersion}
 use Rattle.manifest.specs.{NodeVersion}

@@ -142,8 +142,9 @@ pub explains : (e : EngineError) (left : Contents) → OpeningRefusal e left →
 explains engine.Disk left told opens = tt
 explains engine.Damaged left told opens = record {
   created = told.0;
+  old = told.1;
   no_store = λ facts list files. not_external (opens facts list files);
-  shut = told.1;
+  shut = told.2;
 }
 explains engine.Memory left told opens = tt
 explains engine.NotCreated left told opens = told
@@ -153,6 +154,7 @@ explains engine.NotCommitted left told opens = told
 explains engine.NoSuchSnapshot left told opens = told
 explains engine.TooManySnapshots left told opens = told
 explains engine.Exhausted left told opens = told
+explains engine.OldFormat left told opens = told
 
 -- ---- an engine
 

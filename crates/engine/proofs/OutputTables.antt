@@ -5,7 +5,8 @@ use Rattle.std.specs.Prelude.{All, IfSome, IsSomeAnd}
 use Rattle.std.specs.List.{AllZip}
 use Rattle.std.specs.Option.{option_map}
 use Rattle.std.proofs.lemmas.List.Elements.{All-cons, All-nil}
-use Rattle.kv_types.specs.{Entry, StoredKey}
+use Rattle.byte_fields.specs.{StoredKey}
+use Rattle.kv_types.specs.{Entry}
 use Rattle.disk.specs.{IsDurable, Kept, Slot, State, contents, seen}
 use Rattle.sorted_table.specs.{greatest_key}
 use Rattle.version_edits.specs.declared.TableLine.{TableLine}

@@ -4,7 +4,7 @@ use Rattle.std.proofs.Common.{refl, subst, sym}
 use Rattle.std.specs.Prelude.{IfOk, if◌then◌else◌}
 use Rattle.std.specs.Option.{option_map_or, option_or}
 use Rattle.disk.specs.declared.Disk.{Ghosts}
-use Rattle.kv_types.specs.{StoredKey}
+use Rattle.byte_fields.specs.{StoredKey}
 use Rattle.kv_types.specs.declared.Limits.{Limits}
 use Rattle.version_edits.specs.declared.TableLine.{TableLine}
 use Rattle.compaction.specs.{turn_key}

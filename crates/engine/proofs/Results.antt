@@ -49,6 +49,12 @@ module _ {T : Type 0} where
   ends_or_after (Ok x) causes = tt
   ends_or_after (Err e) causes = inl causes
 
+  -- what holds of an answer, and that a refusal is an end of a working engine
+  pub answer_or_end : (result : Result T EngineError) (P : T → Type 0) → IfOk result P →
+      IfErr result IsEnd → MatchResult result P IsEndOrAfter
+  answer_or_end (Ok x) P answer causes = answer
+  answer_or_end (Err e) P answer causes = inl causes
+
   -- what holds of an answer and what holds of a refusal
   pub of_answer : (result : Result T EngineError) (P : T → Type 0) (Q : EngineError → Type 0) →
       MatchResult result P Q → IfOk result P

@@ -1,10 +1,11 @@
 -- What the calls of an engine answer, and what they make of its disk.
 use Rattle.std.specs.Prelude.{◌≡◌, ◌⊎◌, ◌↔◌, ℕ, ◌<◌, ◌≤◌, List, [], length, true, false}
 use Rattle.std.specs.Prelude.{None, Result, Ok, Err, IsErrOf, IfOk, IsErrAnd, MatchResult, OnOk}
+use Rattle.byte_fields.specs.{StoredKey}
 use Rattle.kv_types.specs.Snapshots.{is_open}
 use Rattle.kv_types.specs.declared.bounds.TheConstants.{MAX_NUMBER}
 use Rattle.kv_types.specs.declared.Limits.{Limits}
-use Rattle.kv_types.specs.{BatchContent, Entry, StoredKey, all_entries}
+use Rattle.kv_types.specs.{BatchContent, Entry, all_entries}
 use Rattle.disk.specs.declared.Disk.{Ghosts}
 use Rattle.disk.specs.{AlwaysLeaves, Contents, IsEnvironmental, IsSame, IsStill, KeepsDisk, State}
 use Rattle.disk.specs.{contents}
@@ -21,7 +22,7 @@ use Rattle.engine.specs.Tends.{IsTendRefusal, tended_store}
 use Rattle.engine.specs.declared.snapshots.TheConstants.{MAX_SNAPSHOTS}
 use Rattle.store_files.specs.declared.tended.Tended.{Tended}
 use Rattle.store_tables.specs.Errors.{EndsEngine, IsEnd}
-use Rattle.manifest.specs.{IsNotCreated, ManifestRepresents}
+use Rattle.manifest.specs.{IsNotCreated, IsOldStore, ManifestRepresents}
 use Rattle.store_files.specs.Files.{Facts, IsOwned, first_facts}
 use Rattle.store_files.specs.Settling.{AreReadAlike}
 use Rattle.store_files.specs.StoreFiles.{FilesRepresent, HasFirstFiles, IsDamaged, IsOneOf, OpensAs}
@@ -53,6 +54,7 @@ IsReadableAnswer told at (Err engine.NotCreated) = ⊥
 IsReadableAnswer told at (Err engine.NoSuchSnapshot) = ⊥
 IsReadableAnswer told at (Err engine.TooManySnapshots) = ⊥
 IsReadableAnswer told at (Err engine.Exhausted) = ⊥
+IsReadableAnswer told at (Err engine.OldFormat) = ⊥
 
 -- ---- which reads need no disk
 
@@ -87,6 +89,7 @@ IsOpenAnswer told at (Err engine.Damaged) = ⊥
 IsOpenAnswer told at (Err engine.NotCreated) = ⊥
 IsOpenAnswer told at (Err engine.NoSuchSnapshot) = ⊥
 IsOpenAnswer told at (Err engine.Exhausted) = ⊥
+IsOpenAnswer told at (Err engine.OldFormat) = ⊥
 
 -- the answer to a closing of a snapshot at this number, which takes no memory
 abbrev pub IsCloseAnswer : {T : Type 0} → LookUps → ℕ → Result T EngineError → Type 0
@@ -315,3 +318,4 @@ ExplainsRefusal engine.NotCommitted left = ⊥
 ExplainsRefusal engine.NoSuchSnapshot left = ⊥
 ExplainsRefusal engine.TooManySnapshots left = ⊥
 ExplainsRefusal engine.Exhausted left = ⊥
+ExplainsRefusal engine.OldFormat left = IsOldStore left

@@ -23,7 +23,7 @@ module _ {D : Type 0} (g : Ghosts D) where
     failures = λ files. g.failures (inner_disk files);
     is_reliable = λ files. g.is_reliable (inner_disk files);
     past = λ files. g.past (inner_disk files);
-    marks = λ files. g.marks (inner_disk files);
+    incidents = λ files. g.incidents (inner_disk files);
     allocates = g.allocates;
   }
 

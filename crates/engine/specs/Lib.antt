@@ -44,4 +44,4 @@ pub use Rattle.store_files.specs.OpenFiles.{known_version}
 pub use Rattle.store_files.specs.Openings.{kept_files}
 pub use Rattle.store_files.specs.Settling.{AreAlone, AreReadAlike}
 pub use Rattle.store_files.specs.Tending.{IsSameBeside}
-pub use Rattle.manifest.specs.{IsNotCreated}
+pub use Rattle.manifest.specs.{IsNotCreated, IsOldStore}

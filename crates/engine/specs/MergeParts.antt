@@ -6,7 +6,8 @@ use Rattle.std.specs.Prelude.{Bool, Err, Ok, false, length, map, max, min, true}
 use Rattle.std.specs.List.{AllZip}
 use Rattle.disk.specs.declared.Disk.{Ghosts}
 use Rattle.disk.specs.{AlwaysLeaves, IsEnvironmental, KeepsDisk, seen}
-use Rattle.kv_types.specs.{BatchContent, Entry, StoredKey}
+use Rattle.byte_fields.specs.{StoredKey}
+use Rattle.kv_types.specs.{BatchContent, Entry}
 use Rattle.version_edits.specs.{IsFit, StoreVersion}
 use Rattle.manifest.specs.{Change, HasFullSlot, counting_file, spare_file}
 use Rattle.store_model.specs.{IsMerged, LevelTable, MergePlan}

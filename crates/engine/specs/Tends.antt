@@ -5,7 +5,8 @@ use Rattle.std.specs.List.{find}
 use Rattle.std.specs.Option.{option_and_then, option_map_or, option_or}
 use Rattle.disk.specs.declared.Disk.{Ghosts}
 use Rattle.disk.specs.{State}
-use Rattle.kv_types.specs.{BatchContent, StoredKey}
+use Rattle.byte_fields.specs.{StoredKey}
+use Rattle.kv_types.specs.{BatchContent}
 use Rattle.kv_types.specs.declared.Limits.{Limits}
 use Rattle.version_edits.specs.declared.TableLine.{TableLine}
 use Rattle.version_edits.specs.declared.TableName.{TableName}

@@ -4,6 +4,7 @@
 mod adopting;
 mod engine;
 pub mod laws;
+mod marking;
 mod merging;
 mod reading;
 mod snapshots;

@@ -14,7 +14,8 @@ use store_files::laws::held_files_are_left;
 impl<D: Disk + Drop> Engine<D> {
     ghost use Rattle.std.specs.Prelude.{◌≡◌, ◌↔◌, List, take};
     ghost use Rattle.std.specs.Prelude.{IfOk, IsErrOf, MatchResult};
-    ghost use Rattle.kv_types.specs.{BatchContent, map_of};
+    ghost use Rattle.byte_fields.specs.{row_key};
+    ghost use Rattle.kv_types.specs.{BatchContent, map_of, stored_span};
     ghost use Rattle.kv_types.specs.Pages.{page_of};
     ghost use Rattle.engine.specs.Calls.{ChangesSnapshots, IsCloseAnswer, IsNoDamage};
     ghost use Rattle.engine.specs.Calls.{IsOpenAnswer, IsReadableAnswer, MemoryHas, OfEachList};
@@ -66,9 +67,9 @@ impl<D: Disk + Drop> Engine<D> {
         ensures damaged { OfEachList D.Disk self.old (λ _.
             IsErrOf result EngineError.Damaged →
             OneNamedLacksBlock (D.state (engine_disk self.old))
-            (engine_version self.old).version.tables key.now at) }
+            (engine_version self.old).version.tables (row_key key.now) at) }
         ensures memory { OfEachList D.Disk self.old (λ list.
-            MemoryHas list (engine_version self.old).version.flushed at key.now →
+            MemoryHas list (engine_version self.old).version.flushed at (row_key key.now) →
             NeedsNoDisk (engine_disk self.old) (engine_disk self.new) result) }
     {
         held_files_are_left(); // law: what the disk of open files reads as, and leaves
@@ -94,7 +95,7 @@ impl<D: Disk + Drop> Engine<D> {
             IsNoDamage result }
         ensures damaged { OfEachList D.Disk self.old (λ _.
             IsErrOf result EngineError.Damaged →
-            OneIsDamagedIn range.now (D.state (engine_disk self.old))
+            OneIsDamagedIn (stored_span range.now) (D.state (engine_disk self.old))
             (engine_version self.old).version.tables) }
     {
         held_files_are_left(); // law: what the disk of open files reads as, and leaves

@@ -8,10 +8,11 @@ ghost use Rattle.engine.specs.Tends.{KeepsTended, MergesByPlan, RefusesTend, Ten
 ghost use Rattle.engine.specs.Tends.{key_of_plan, tended_store};
 
 use crate::merging::{begin, continue_merge};
+use byte_fields::StoredKey;
 use compaction::laws::{merges_outlive_calls, merges_stay_beside};
 use compaction::{Merge, Plan, Turn, pick};
 use disk::Disk;
-use kv_types::{Key, Limits, Number};
+use kv_types::{Limits, Number};
 use std::alloc::{AllocError, Global};
 use store_files::laws::{held_files_are_left, open_files_are_apart};
 use store_files::{EngineError, StoreFiles, Tended};
@@ -19,7 +20,7 @@ use table_files::CachedDisk;
 use version_edits::TableLine;
 
 // The greatest key of the one table that the plan takes from its level, if it takes one alone.
-fn key_of(plan: Plan, tables: &[TableLine]) -> Result<Option<Key>, AllocError>
+fn key_of(plan: Plan, tables: &[TableLine]) -> Result<Option<StoredKey>, AllocError>
     ensures { IfOk result (λ key. key ≡ key_of_plan plan tables.now) }
 {
     let Some(file) = plan.file else {
@@ -36,7 +37,7 @@ fn key_of(plan: Plan, tables: &[TableLine]) -> Result<Option<Key>, AllocError>
 }
 
 // The turn of a level is over for the table with this greatest key, if there is one.
-fn end_turn(turn: &mut Turn, level: u8, key: Option<Key>)
+fn end_turn(turn: &mut Turn, level: u8, key: Option<StoredKey>)
     requires { level ≤ 6 }
     ensures { (other : ℕ) → turn_key turn.new other
         ≡ (if other == level then option_or key (turn_key turn.old other)

@@ -3,8 +3,8 @@
 use crate::cases::is_so;
 use crate::items::is_same;
 use crate::open_tables::bytes_of;
+use byte_fields::{LentKey, Space};
 use disk::MemDisk;
-use kv_types::LentKey;
 use sorted_table::{Builder, Finished};
 use std::alloc::Global;
 use std::process::Abort;
@@ -20,7 +20,7 @@ fn add_a(
     number: u8,
 ) -> Result<(), TableError> {
     let entry = LentEntry {
-        key: LentKey::new(b"a"),
+        key: LentKey::new(Space::Rows, b"a"),
         number: number as u64,
         value: None,
     };
@@ -43,10 +43,10 @@ fn a_refused_entry_leaves_the_builder(rt: HostRuntime) {
         (3, Err(TableError::Order)),
     ] {
         let answer = add_a(alloc, &mut builder, &mut disk, number);
-        is_so(&rt, answer == want && has(&builder, 1, 24), "one entry");
+        is_so(&rt, answer == want && has(&builder, 1, 25), "one entry");
     }
     let answer = add_a(alloc, &mut builder, &mut disk, 1);
-    is_so(&rt, answer.is_ok() && has(&builder, 2, 36), "two entries");
+    is_so(&rt, answer.is_ok() && has(&builder, 2, 38), "two entries");
 }
 
 /// Adds 1,000 keys, each at number 1.
@@ -54,7 +54,7 @@ fn fill(rt: &impl Abort, alloc: Global, builder: &mut Builder, disk: &mut MemDis
     for i in 0..1000u16 {
         let key = i.to_be_bytes();
         let entry = LentEntry {
-            key: LentKey::new(&key),
+            key: LentKey::new(Space::Rows, &key),
             number: 1,
             value: Some(&[7; 100]),
         };
@@ -90,20 +90,20 @@ fn counts(rt: &impl Abort, alloc: Global, table: &[u8]) -> (usize, usize) {
     (lines.len(), good)
 }
 
-/// The table of those keys. 36 entries of 115 bytes fill a block: 27 full blocks, and one of 28
+/// The table of those keys. 36 entries of 116 bytes fill a block: 27 full blocks, and one of 28
 /// entries.
 fn finished(rt: &impl Abort, alloc: Global, disk: &mut MemDisk) -> Finished {
     let mut builder = Builder::new(alloc, FILE);
     fill(rt, alloc, &mut builder, disk);
-    is_so(rt, builder.data_size() == 115_000 + 28 * 12, "the size");
+    is_so(rt, builder.data_size() == 116_000 + 28 * 12, "the size");
     assert!(rt; builder.len() == 1_000);
     builder.finish(alloc, disk).expect(rt, "a table")
 }
 
 /// Whether the builder reports the first key, the last, and this length.
 fn is_reported(finished: &Finished, len: usize) -> bool {
-    is_same(finished.least.as_bytes(), &[0, 0])
-        && is_same(finished.greatest.as_bytes(), &[3, 231])
+    is_same(finished.least.lent().as_bytes(), &[0, 0])
+        && is_same(finished.greatest.lent().as_bytes(), &[3, 231])
         && finished.length == len as u64
 }
 

@@ -6,15 +6,15 @@ use crate::cases::is_so;
 use crate::counts::is_count;
 use crate::items::{copy_of, is_same};
 use crate::open_tables::{with_cache, write};
+use byte_fields::{LentKey, Space};
 use disk::{Crash, Disk, Fault, MemDisk};
-use kv_types::LentKey;
 use sorted_table::CachedDisk;
 use std::alloc::Global;
 use std::process::Abort;
 use table_format::{FileError, LentEntry, put_entry, seal};
 
 /// The length of a block whose one entry has a key and a value of one byte.
-const BLOCK: usize = 27;
+const BLOCK: usize = 28;
 
 /// The block whose one entry has this byte as its key and these as its value, at number 1.
 fn block_with(rt: &impl Abort, alloc: Global, byte: u8, value: &[u8]) -> Vec<u8>
@@ -23,7 +23,7 @@ fn block_with(rt: &impl Abort, alloc: Global, byte: u8, value: &[u8]) -> Vec<u8>
     let mut block = copy_of(rt, alloc, &[0, 0, 0, 1]);
     let key = [byte];
     let entry = LentEntry {
-        key: LentKey::new(&key),
+        key: LentKey::new(Space::Rows, &key),
         number: 1,
         value: Some(value),
     };
@@ -140,27 +140,27 @@ fn a_changed_byte_is_damage(rt: HostRuntime) {
 // ---- three blocks of one file
 
 /// The length of a block whose one entry has a key of one byte and a value of 5,000.
-const LONG: usize = 5_026;
+const LONG: usize = 5_027;
 
 /// The places and lengths of the blocks, and their keys: the second one is long.
-static BLOCKS: [(u64, usize, u8); 3] = [(0, BLOCK, b'a'), (27, LONG, b'b'), (5_053, BLOCK, b'c')];
+static BLOCKS: [(u64, usize, u8); 3] = [(0, BLOCK, b'a'), (28, LONG, b'b'), (5_055, BLOCK, b'c')];
 
 /// File 1 with these blocks, and a cache of three.
 fn three_blocks(rt: &impl Abort, alloc: Global) -> CachedDisk<MemDisk> {
     let mut disk = MemDisk::new(alloc);
     put_block(rt, alloc, &mut disk, (1, 0), b'a');
     let long = block_with(rt, alloc, b'b', &[7; 5_000]);
-    write(rt, &mut disk, 1, 27, &long);
-    put_block(rt, alloc, &mut disk, (1, 5_053), b'c');
+    write(rt, &mut disk, 1, 28, &long);
+    put_block(rt, alloc, &mut disk, (1, 5_055), b'c');
     with_cache(rt, alloc, disk, 3)
 }
 
-/// How many of the blocks a read answers, each with its key, which stands at place 6.
+/// How many of the blocks a read answers, each with its key, which stands at place 7.
 fn answered(alloc: Global, files: &mut CachedDisk<MemDisk>) -> usize {
     let mut count = 0usize;
     for (place, len, key) in &BLOCKS {
         if let Ok(block) = files.block(alloc, 1, *place, *len) {
-            count = count.wrapping_add((block.bytes.get(6) == Some(key)) as usize);
+            count = count.wrapping_add((block.bytes.get(7) == Some(key)) as usize);
         }
     }
     count

@@ -1,6 +1,7 @@
 //! Keys, batches, lists and the like, as tests make them.
 
-use kv_types::{Key, Number, Value};
+use byte_fields::StoredKey;
+use kv_types::{Batch, Edit, Key, KvError, Number, Value};
 use std::alloc::Global;
 use std::process::Abort;
 
@@ -28,8 +29,69 @@ pub fn key_of(rt: &impl Abort, alloc: Global, bytes: &[u8]) -> Key {
     Key::new(copy_of(rt, alloc, bytes)).expect(rt, "a key")
 }
 
+/// The key of the row at these bytes, as that of an entry.
+pub fn row_key_of(rt: &impl Abort, alloc: Global, bytes: &[u8]) -> StoredKey {
+    let key = key_of(rt, alloc, bytes);
+    key.stored().clone().expect(rt, "memory")
+}
+
 pub fn value_of(rt: &impl Abort, alloc: Global, bytes: &[u8]) -> Value {
     Value::new(copy_of(rt, alloc, bytes)).expect(rt, "a value")
+}
+
+/// A put, or a deletion where there is no value.
+fn edit_of(rt: &impl Abort, alloc: Global, key: &[u8], value: Option<&[u8]>) -> Edit {
+    let key = key_of(rt, alloc, key);
+    match value {
+        Some(bytes) => Edit::Put(key, value_of(rt, alloc, bytes)),
+        None => Edit::Delete(key),
+    }
+}
+
+pub type Edits<'a> = &'a [(&'a [u8], Option<&'a [u8]>)];
+
+fn edits_of(rt: &impl Abort, alloc: Global, edits: Edits) -> Vec<Edit> {
+    let mut list = Vec::new(alloc);
+    for (key, value) in edits {
+        put(rt, &mut list, edit_of(rt, alloc, *key, *value));
+    }
+    list
+}
+
+/// The client and the request of a mark.
+pub type Marking = (u64, u64);
+
+/// The batch of these edits with this mark, or without one, if that is a batch.
+pub fn try_batch(mark: Option<Marking>, edits: Vec<Edit>) -> Result<Batch, KvError> {
+    match mark {
+        Some((client, request)) => Batch::marked(client, request, edits),
+        None => Batch::new(edits),
+    }
+}
+
+/// The batch of these edits with this mark.
+pub fn marked_of(rt: &impl Abort, alloc: Global, mark: Marking, edits: Edits) -> Batch {
+    try_batch(Some(mark), edits_of(rt, alloc, edits)).expect(rt, "a batch")
+}
+
+/// The batch of this many deletions of this key, if that is one.
+pub fn deletions(
+    rt: &impl Abort,
+    alloc: Global,
+    mark: Option<Marking>,
+    key: &[u8],
+    count: usize,
+) -> Result<Batch, KvError> {
+    let mut edits = Vec::new(alloc);
+    for _ in 0..count {
+        put(rt, &mut edits, Edit::Delete(key_of(rt, alloc, key)));
+    }
+    try_batch(mark, edits)
+}
+
+/// The batch of one deletion of this key.
+pub fn deletion(rt: &impl Abort, alloc: Global, key: &[u8]) -> Batch {
+    deletions(rt, alloc, None, key, 1).expect(rt, "a batch")
 }
 
 pub fn number(value: u64) -> Number {

@@ -3,7 +3,7 @@
 use crate::items::is_same;
 use crate::plain::{Move, PlainEntry, PlainWalk, move_of};
 use crate::sequence::Sequence;
-use kv_types::LentKey;
+use byte_fields::{LentKey, Space};
 use merge_iter::{Cursor, CursorError};
 use std::process::Abort;
 
@@ -19,7 +19,11 @@ pub fn apply<C: Cursor>(
     match step {
         Move::First => cursor.first(source),
         Move::Last => cursor.last(source),
-        Move::Seek(key, number) => cursor.seek(source, LentKey::new(&key.to_be_bytes()), number),
+        Move::Seek(key, number) => cursor.seek(
+            source,
+            LentKey::new(Space::Rows, &key.to_be_bytes()),
+            number,
+        ),
         Move::Next if cursor.valid() => cursor.next(source),
         Move::Prev if cursor.valid() => cursor.prev(source),
         _ => Ok(()),

@@ -3,7 +3,7 @@
 
 use crate::cases::{holds_at, is_so};
 use crate::counts::is_count;
-use crate::entries::{entry_of, owned};
+use crate::entries::{client_key, entry_at, entry_of, owned};
 use crate::items::{filled, is_same, key_of, put};
 use crate::plain::PlainEntry;
 use kv_types::{Key, Page, Range, Row};
@@ -111,7 +111,7 @@ fn short_page(
 }
 
 fn is_row(row: &Row, (key, value): Pair) -> bool {
-    is_same(row.key().as_bytes(), &key.to_be_bytes()) && is_same(row.value(), &value.to_be_bytes())
+    is_same(row.key(), &key.to_be_bytes()) && is_same(row.value(), &value.to_be_bytes())
 }
 
 fn has_rows(page: &Page, want: &[Pair], has_more: bool) -> bool {
@@ -298,4 +298,51 @@ fn pages_about_the_greatest_key(rt: HostRuntime) {
     let mut view = AtNumber::new(alloc, ListCursor::new(entries), 1);
     is_so(&rt, are_parted(&rt, alloc, &mut view, false), "forward");
     is_so(&rt, are_parted(&rt, alloc, &mut view, true), "back");
+}
+
+// ---- marks
+
+/// The entry of a mark of this client.
+fn add_mark(rt: &impl Abort, alloc: Global, entries: &mut Vec<OwnedEntry>, client: u64) {
+    let key = client_key(rt, alloc, client);
+    let request = [0, 0, 0, 0, 0, 0, 0, 1];
+    put(rt, entries, entry_at(rt, alloc, key, 1, Some(&request)));
+}
+
+/// The view of so many rows, whose keys and values are their places, and behind them two marks.
+fn rows_and_marks(rt: &impl Abort, alloc: Global, count: u16) -> AtNumber<ListCursor> {
+    let mut entries = Vec::new(alloc);
+    for i in 0..count {
+        let place = i.to_be_bytes();
+        add(rt, alloc, &mut entries, &place, &place);
+    }
+    add_mark(rt, alloc, &mut entries, 1);
+    add_mark(rt, alloc, &mut entries, 7);
+    AtNumber::new(alloc, ListCursor::new(entries), 1)
+}
+
+/// The least key of a range, the key that it ends below, and the limit of its page; and the rows
+/// that it has forward and back, and whether more are left. No mark is among the two rows.
+static BEFORE_MARKS: [Case; 6] = [
+    (0, None, 9, &[(0, 0), (1, 1)], &[(1, 1), (0, 0)], false),
+    (0, None, 2, &[(0, 0), (1, 1)], &[(1, 1), (0, 0)], false),
+    (0, None, 1, &[(0, 0)], &[(1, 1)], true),
+    (1, None, 1, &[(1, 1)], &[(1, 1)], false),
+    (1, Some(65_535), 9, &[(1, 1)], &[(1, 1)], false),
+    (2, None, 1, &[], &[], false),
+];
+
+#[test]
+fn pages_show_no_marks(rt: HostRuntime) {
+    let mut view = rows_and_marks(&rt, rt.alloc(), 2);
+    for (index, case) in BEFORE_MARKS.iter().enumerate() {
+        holds_at(&rt, index, holds(&rt, rt.alloc(), &mut view, case));
+    }
+    let mut view = rows_and_marks(&rt, rt.alloc(), 0);
+    let alone: Case = (0, None, 9, &[], &[], false);
+    is_so(
+        &rt,
+        holds(&rt, rt.alloc(), &mut view, &alone),
+        "marks alone",
+    );
 }

@@ -3,7 +3,7 @@
 use crate::cases::{holds_at, is_so};
 use crate::items::{copy_of, is_same};
 use crate::one_put::{BLOCK, FILTER, FOOTER, INDEX, index_with, turned};
-use kv_types::LentKey;
+use byte_fields::{LentKey, Space};
 use std::alloc::Global;
 use std::process::Abort;
 use table_format::{
@@ -14,7 +14,7 @@ use table_format::{
 fn block(rt: &impl Abort, alloc: Global) -> Vec<u8> {
     let mut part = copy_of(rt, alloc, &[0, 0, 0, 1]);
     let entry = LentEntry {
-        key: LentKey::new(b"a"),
+        key: LentKey::new(Space::Rows, b"a"),
         number: 1,
         value: Some(b"1"),
     };
@@ -25,9 +25,9 @@ fn block(rt: &impl Abort, alloc: Global) -> Vec<u8> {
 
 fn footer(rt: &impl Abort, alloc: Global) -> Vec<u8> {
     let footer = Footer {
-        index: 47,
-        index_len: 35,
-        filter: 27,
+        index: 48,
+        index_len: 36,
+        filter: 28,
         filter_len: 20,
         entries: 1,
     };
@@ -35,7 +35,7 @@ fn footer(rt: &impl Abort, alloc: Global) -> Vec<u8> {
 }
 
 /// The content of the filter of the key `a`.
-const BITS: [u8; 8] = [0, 12, 128, 1, 16, 0, 2, 64];
+const BITS: [u8; 8] = [66, 0, 0, 33, 0, 132, 16, 0];
 
 #[test]
 fn parts_are_written(rt: HostRuntime) {
@@ -72,20 +72,20 @@ fn is_filter(part: &[u8]) -> bool {
     }
 }
 
-/// Whether it is the index of one block of 27 bytes that ends with `a` at 1.
+/// Whether it is the index of one block of 28 bytes that ends with `a` at 1.
 fn is_index(alloc: Global, part: &[u8]) -> bool {
-    let Ok(lines) = lines_of(alloc, part, 27) else {
+    let Ok(lines) = lines_of(alloc, part, 28) else {
         return false;
     };
     match lines.first() {
-        Some(line) => is_same(line.key.as_bytes(), b"a") && line.number == 1,
+        Some(line) => is_same(line.key.lent().as_bytes(), b"a") && line.number == 1,
         None => false,
     }
 }
 
 fn is_footer(part: &[u8]) -> bool {
     match footer_of(part) {
-        Some(footer) => footer.index == 47 && footer.filter == 27 && footer.entries == 1,
+        Some(footer) => footer.index == 48 && footer.filter == 28 && footer.entries == 1,
         None => false,
     }
 }
@@ -96,6 +96,43 @@ fn parts_are_read(rt: HostRuntime) {
     is_so(&rt, is_filter(FILTER), "the filter");
     is_so(&rt, is_index(rt.alloc(), INDEX), "the index");
     is_so(&rt, is_footer(FOOTER), "the footer");
+}
+
+/// The front of a part, up to its digest, with another byte at a place, and its digest anew.
+fn resealed(rt: &impl Abort, alloc: Global, part: &[u8], (at, byte): (usize, u8)) -> Vec<u8> {
+    let front = part.get(..part.len().wrapping_sub(8)).unwrap_or_default();
+    let mut bytes = copy_of(rt, alloc, front);
+    if let Some(place) = bytes.get_mut(at) {
+        *place = byte;
+    }
+    seal(&mut bytes).expect(rt, "memory");
+    bytes
+}
+
+/// Whether the block's first entry is one of a mark.
+fn is_of_a_mark(part: &[u8]) -> bool {
+    match entry_of(entries_of(part).unwrap_or_default()) {
+        Some((entry, _)) => entry.key.space() == Space::Marks,
+        None => false,
+    }
+}
+
+// The space of the entry stands at 4, that of the line at 16, and the format at 35.
+#[test]
+fn two_spaces_and_one_format(rt: HostRuntime) {
+    let alloc = rt.alloc();
+    let marked = resealed(&rt, alloc, BLOCK, (4, 1));
+    is_so(&rt, is_of_a_mark(&marked), "the space of marks");
+    let other = resealed(&rt, alloc, BLOCK, (4, 2));
+    is_so(&rt, Kind::Block.refuses(alloc, &other), "a third space");
+    let marked = resealed(&rt, alloc, INDEX, (16, 1));
+    is_so(&rt, !Kind::Index.refuses(alloc, &marked), "a mark's line");
+    let other = resealed(&rt, alloc, INDEX, (16, 2));
+    is_so(&rt, Kind::Index.refuses(alloc, &other), "another line");
+    for format in [0, 1, 3] {
+        let other = resealed(&rt, alloc, FOOTER, (35, format));
+        is_so(&rt, Kind::Footer.refuses(alloc, &other), "a format");
+    }
 }
 
 /// The kinds of a part.
@@ -113,7 +150,7 @@ impl Kind {
         match self {
             Kind::Block => entries_of(bytes).is_none(),
             Kind::Filter => filter_of(bytes).is_none(),
-            Kind::Index => lines_of(alloc, bytes, 27).is_err(),
+            Kind::Index => lines_of(alloc, bytes, 28).is_err(),
             Kind::Footer => footer_of(bytes).is_none(),
         }
     }
@@ -132,7 +169,7 @@ fn all_is_found(rt: &impl Abort, alloc: Global, kind: Kind, part: &[u8], place: 
 fn damage_of_each_byte_is_found(rt: HostRuntime) {
     let alloc = rt.alloc();
     all_is_found(&rt, alloc, Kind::Block, BLOCK, 0);
-    all_is_found(&rt, alloc, Kind::Filter, FILTER, 27);
-    all_is_found(&rt, alloc, Kind::Index, INDEX, 47);
-    all_is_found(&rt, alloc, Kind::Footer, FOOTER, 82);
+    all_is_found(&rt, alloc, Kind::Filter, FILTER, 28);
+    all_is_found(&rt, alloc, Kind::Index, INDEX, 48);
+    all_is_found(&rt, alloc, Kind::Footer, FOOTER, 84);
 }

@@ -6,8 +6,8 @@ use crate::entries::{entry_of, is_same_value};
 use crate::items::is_same;
 use crate::one_put::{BLOCK, FILTER, FOOTER, INDEX, joined, turned};
 use crate::open_tables::{FILE, build, bytes_of, table_in, with_cache, write};
+use byte_fields::{LentKey, Space};
 use disk::MemDisk;
-use kv_types::LentKey;
 use sorted_table::{CachedDisk, FileError, Table};
 use std::alloc::Global;
 use std::process::Abort;
@@ -32,7 +32,11 @@ fn table_of_a(
     let bytes = bytes_of(rt, alloc, disk, file);
     let is_reported = finished.length == bytes.len() as u64;
     is_so(rt, is_reported, "the builder reports another length");
-    is_so(rt, is_same(finished.least.as_bytes(), b"a"), "another key");
+    is_so(
+        rt,
+        is_same(finished.least.lent().as_bytes(), b"a"),
+        "another key",
+    );
     bytes
 }
 
@@ -42,9 +46,9 @@ fn bytes_of_the_smallest_tables(rt: HostRuntime) {
     let bytes = table_of_a(&rt, alloc, &mut disk, 3, Some(b"1"));
     is_so(&rt, is_same(&bytes, &smallest(&rt, alloc)), "its bytes");
     let bytes = table_of_a(&rt, alloc, &mut disk, 4, None);
-    is_count(&rt, bytes.len(), 131);
+    is_count(&rt, bytes.len(), 133);
     let bytes = table_of_a(&rt, alloc, &mut disk, 5, Some(&[7; 200]));
-    is_count(&rt, bytes.len(), 333);
+    is_count(&rt, bytes.len(), 335);
 }
 
 // ---- damage
@@ -58,7 +62,10 @@ fn files_with(rt: &impl Abort, alloc: Global, bytes: &[u8]) -> CachedDisk<MemDis
 
 /// Whether a lookup of `a` says that its block is damaged.
 fn is_refused(alloc: Global, table: &Table, files: &mut CachedDisk<MemDisk>) -> bool {
-    table.get(alloc, files, LentKey::new(b"a"), 1).err() == Some(FileError::Damaged)
+    table
+        .get(alloc, files, LentKey::new(Space::Rows, b"a"), 1)
+        .err()
+        == Some(FileError::Damaged)
 }
 
 /// Whether the opening or a lookup says that these bytes are damaged.
@@ -76,7 +83,7 @@ fn damage_and_short_files_are_found(rt: HostRuntime) {
     let alloc = rt.alloc();
     let whole = smallest(&rt, alloc);
     is_so(&rt, !is_damaged(&rt, alloc, &whole), "the sound table");
-    for at in 0..134 {
+    for at in 0..136 {
         let other = turned(&rt, alloc, &whole, at);
         holds_at(&rt, at, is_damaged(&rt, alloc, &other));
         let front = whole.get(..at).unwrap_or_default();
@@ -94,7 +101,7 @@ fn is_found_late(rt: &impl Abort, alloc: Global, at: usize) -> bool {
 
 #[test]
 fn damage_of_a_block_is_found_by_its_first_read(rt: HostRuntime) {
-    for at in [0, 6, 18, 26] {
+    for at in [0, 4, 7, 19, 27] {
         holds_at(&rt, at, is_found_late(&rt, rt.alloc(), at));
     }
 }
@@ -117,7 +124,7 @@ fn has_value(
     files: &mut CachedDisk<MemDisk>,
     value: &[u8],
 ) -> bool {
-    let key = LentKey::new(b"a");
+    let key = LentKey::new(Space::Rows, b"a");
     match table.get(alloc, files, key, 1).expect(rt, "a lookup") {
         Some(found) => is_same_value(found.value.as_deref(), Some(value)),
         None => false,

@@ -43,7 +43,7 @@ fn record(
     times: usize,
 ) {
     let edit = edit_of(rt, alloc, numbers, logs);
-    let opened = Log::open(alloc, disk, 1, 11).expect(rt, "the slot");
+    let opened = Log::open(alloc, disk, 1, 13).expect(rt, "the slot");
     let mut log = opened.log;
     for _ in 0..times {
         log.append(disk, &edit).expect(rt, "a record");

@@ -18,7 +18,7 @@ use Rattle.engine.specs.{SparesFound, kept_files}
 use Rattle.disk.specs.KeepingLemmas.{kept_behind}
 use Rattle.chain_core.specs.{Machine}
 use Rattle.manifest.specs.{HasOnlyCreationFiles, IsNotCreated, NodeVersion, SlotsRead}
-use Rattle.manifest.specs.{VersionIsOne}
+use Rattle.manifest.specs.{OldStoresAreApart, VersionIsOne}
 use Rattle.manifest.specs.Holds.{SparesOthers}
 use Rattle.manifest.specs.Laws.{VersionsAreCreated}
 use Rattle.node.specs.{DiskRefines, DiskRefinesOneOf}
@@ -134,16 +134,18 @@ env_listed cause e is (inl failed) = inl (is ∙ ap (λ c. Stopped (disk_stop c)
 env_listed cause e is (inr memory) = inr (is ∙ ap (λ c. Stopped (disk_stop c)) memory)
 
 -- a manifest that is represented was refused for the environment
-pub env_opened : VersionsAreCreated → (cause : ManifestError) (e : FolderError) (left : Contents)
-    (x : ℕ) (n : Machine) → e ≡ Stopped (manifest_stop cause) → ManifestRefusal cause left →
-    DiskRefines left x n → IsForEnvironment e
-env_opened created manifest.Disk e left x n is why read = inl is
-env_opened created manifest.Memory e left x n is why read = inr is
-env_opened created manifest.Failed e left x n is why read = absurd why
-env_opened created manifest.NotCreated e left x n is why read =
+pub env_opened : VersionsAreCreated → OldStoresAreApart → (cause : ManifestError) (e : FolderError)
+    (left : Contents) (x : ℕ) (n : Machine) → e ≡ Stopped (manifest_stop cause) →
+    ManifestRefusal cause left → DiskRefines left x n → IsForEnvironment e
+env_opened created apart manifest.Disk e left x n is why read = inl is
+env_opened created apart manifest.Memory e left x n is why read = inr is
+env_opened created apart manifest.Failed e left x n is why read = absurd why
+env_opened created apart manifest.NotCreated e left x n is why read =
     absurd (is_created created left x n read why)
-env_opened created manifest.Damaged e left x n is why read =
+env_opened created apart manifest.Damaged e left x n is why read =
     absurd (why.1 (record { id = x; version = read.version }) read.manifest)
+env_opened created apart manifest.OldFormat e left x n is why read =
+    absurd ((apart left why).1 (record { id = x; version = read.version }) read.manifest)
 
 -- a refusal of a creation or a start is of the device if its cause was
 pub device_stopped : (cause : Stop) (e : FolderError) → e ≡ Stopped cause →
@@ -168,6 +170,7 @@ device_opened manifest.Memory e is = (λ fails. cc, λ same. cc)
 device_opened manifest.NotCreated e is = (λ fails. cc, λ same. cc)
 device_opened manifest.Damaged e is = (λ fails. cc, λ same. cc)
 device_opened manifest.Failed e is = (λ fails. cc, λ same. cc)
+device_opened manifest.OldFormat e is = (λ fails. cc, λ same. cc)
 
 -- an answer is no failure of the device
 pub answers : {T E : Type 0} {x : T} {e : E} → IsErrOf (Ok x) e → ⊥
@@ -230,9 +233,12 @@ slots_explain configs id manifest.Memory e left is other why =
     subst (FindingRefusal configs id left) (sym is) tt
 slots_explain configs id manifest.NotCreated e left is other why = absurd (other refl)
 slots_explain configs id manifest.Failed e left is other why = absurd why
+slots_explain configs id manifest.OldFormat e left is other why =
+    subst (FindingRefusal configs id left) (sym is) why
 slots_explain configs id manifest.Damaged e left is other why =
     subst (FindingRefusal configs id left) (sym is) (record {
       created = why.0;
+      old = why.2;
       no_store = λ facts list files.
           why.1 (record { id = facts.id; version = files.version }) files.manifest;
       shut = λ facts count opens.
@@ -247,6 +253,7 @@ start_explains configs id left (Stopped stop.Disk) created why = tt
 start_explains configs id left (Stopped stop.Memory) created why = tt
 start_explains configs id left (Stopped stop.Damaged) created why = why
 start_explains configs id left (Stopped stop.NotCreated) created why = absurd (created why)
+start_explains configs id left (Stopped stop.OldFormat) created why = why
 
 -- a refusal for the environment needs nothing more
 pub environment_explains : (configs : Configurations) (id : ℕ) (left : Contents) (e : FolderError)

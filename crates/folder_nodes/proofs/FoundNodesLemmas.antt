@@ -8,7 +8,7 @@ use Rattle.std.proofs.lemmas.List.{map-append, take-append-drop}
 use Rattle.std.proofs.lemmas.List.Elements.{All-cons, All-nil}
 use Rattle.disk.specs.declared.Disk.{Ghosts}
 use Rattle.dir_disk.specs.declared.folder.DirDisk.{DirDisk}
-use Rattle.dir_disk.specs.Disks.{IsLockedFolder, folder_marks}
+use Rattle.dir_disk.specs.Disks.{IsLockedFolder, folder_incidents}
 use Rattle.dir_disk.specs.Names.{file_path}
 use Rattle.configurations.specs.{Configurations}
 use Rattle.kv_types.specs.declared.Limits.{Limits}
@@ -88,12 +88,12 @@ module _ {D S : Type 0} {g : Ghosts D} (makes : S → ℕ → Result D FolderErr
 
 -- what is noted of a folder says whether it is a locked one
 locked_stays : {R : Type 0} (path : List ℕ) (old new : DirDisk R) →
-    folder_marks new ≡ folder_marks old → new.failures.count ≡ old.failures.count →
+    folder_incidents new ≡ folder_incidents old → new.failures.count ≡ old.failures.count →
     IsLockedFolder path old → IsLockedFolder path new
-locked_stays path old new marks count locked = grind (arith, common_steps)
+locked_stays path old new incidents count locked = grind (arith, common_steps)
 
 module _ {R S : Type 0} {g : Ghosts (DirDisk R)}
-    (marks : (disk : DirDisk R) → g.marks disk ≡ folder_marks disk)
+    (incidents : (disk : DirDisk R) → g.incidents disk ≡ folder_incidents disk)
     (failures : (disk : DirDisk R) → g.failures disk ≡ disk.failures.count)
     (makes : S → ℕ → Result (DirDisk R) FolderError → S → Type 0) (path_of : S → List ℕ)
     (answers : (old new : S) (id : ℕ) (result : Result (DirDisk R) FolderError) →
@@ -112,7 +112,7 @@ module _ {R S : Type 0} {g : Ghosts (DirDisk R)}
         own = is.own;
         limits_are = is.ends.limits_are;
         found = locked_stays (file_path path sim.id) disk new
-            (sym (marks new) ∙ is.ends.kept.fault ∙ marks disk)
+            (sym (incidents new) ∙ is.ends.kept.fault ∙ incidents disk)
             (sym (failures new) ∙ is.ends.kept.count (λ no. no) ∙ failures disk) made.1;
       }
 

@@ -6,7 +6,7 @@ use Rattle.dir_disk.specs.declared.lock.LockError.TheVariants as lock
 use Rattle.node.specs.declared.stop.Stop.{Stop}
 use Rattle.manifest.specs.declared.error.ManifestError.{ManifestError}
 use Rattle.manifest.specs.declared.error.ManifestError.TheVariants as manifest
-use Rattle.node.specs.declared.stop.Stop.TheVariants.{Damaged, Disk, Memory, NotCreated}
+use Rattle.node.specs.declared.stop.Stop.TheVariants.{Damaged, Disk, Memory, NotCreated, OldFormat}
 
 -- why a disk has no node, by the error that kept its files from being listed
 abbrev pub disk_stop : DiskError → Stop
@@ -28,3 +28,4 @@ manifest_stop manifest.Damaged = Damaged
 manifest_stop manifest.NotCreated = NotCreated
 manifest_stop manifest.Memory = Memory
 manifest_stop manifest.Failed = Damaged
+manifest_stop manifest.OldFormat = OldFormat

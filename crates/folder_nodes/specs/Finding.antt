@@ -7,8 +7,8 @@ use Rattle.configurations.specs.{at_epoch, Configurations}
 use Rattle.chain_model.specs.{created, started}
 use Rattle.chain_core.specs.{Machine}
 use Rattle.engine.specs.{AreShut, SparesNamed}
-use Rattle.manifest.specs.{HasOnlyCreationFiles, IsNotCreated, ManifestRepresents, NodeVersion}
-use Rattle.manifest.specs.{SlotsRead, WasCutShort}
+use Rattle.manifest.specs.{HasOnlyCreationFiles, IsNotCreated, IsOldStore, ManifestRepresents}
+use Rattle.manifest.specs.{NodeVersion, SlotsRead, WasCutShort}
 use Rattle.node.specs.declared.node.Node.{Node}
 use Rattle.node.specs.declared.stop.Stop.TheVariants as stop
 use Rattle.node.specs.Starts.{IsStarted, StartRefusal}
@@ -63,6 +63,7 @@ FindingRefusal configs id left (Stopped stop.Memory) = Unit {0}
 FindingRefusal configs id left (Stopped stop.Damaged) = StartRefusal stop.Damaged left
 FindingRefusal configs id left (Stopped stop.NotCreated) =
     IsNotCreated left × (HasOnlyCreationFiles left → ⊥)
+FindingRefusal configs id left (Stopped stop.OldFormat) = IsOldStore left
 
 -- refused for the device or for want of memory
 abbrev pub IsForEnvironment : FolderError → Type 0

@@ -17,7 +17,7 @@ use std::alloc::{AllocError, AllocFailed};
 pub enum FolderError {
     /// The node was neither created nor started. `Disk`: the device failed, the folder is in use,
     /// or there is none and none can be made. `Damaged`, `NotCreated`: the folder has files, which
-    /// are no node's.
+    /// are no node's. `OldFormat`: they are a node's of the old format.
     Stopped(Stop),
     /// The node has another id, or a configuration that the list does not have at its epoch.
     OtherNode,
@@ -70,6 +70,7 @@ impl From<ManifestError> for FolderError {
             ManifestError::Disk => Stop::Disk,
             ManifestError::Memory => Stop::Memory,
             ManifestError::NotCreated => Stop::NotCreated,
+            ManifestError::OldFormat => Stop::OldFormat,
             ManifestError::Damaged | ManifestError::Failed => Stop::Damaged,
         })
     }

@@ -16,7 +16,7 @@ option_or_nested : {A : Type 0} (x y z : Option A)
 option_or_nested None y z = refl
 option_or_nested (Some a) y z = refl
 
-option_or_none : {A : Type 0} (x : Option A) → option_or x None ≡ x
+pub option_or_none : {A : Type 0} (x : Option A) → option_or x None ≡ x
 option_or_none None = refl
 option_or_none (Some a) = refl
 

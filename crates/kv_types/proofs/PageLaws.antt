@@ -5,13 +5,13 @@ use Rattle.std.proofs.Common.{ap, subst, ◌∙◌, arith, length-append, ltb-tr
 use Rattle.std.proofs.lemmas.Bool.{leb-true, leb-false}
 use Rattle.std.proofs.lemmas.List.{append_cancel_left}
 use Rattle.std.proofs.lemmas.List.Sums.{sum_by-cons}
+use Rattle.byte_fields.specs.ByteOrderLemmas.{below_is_strict}
 use Rattle.kv_types.specs.declared.bounds.TheConstants.{MAX_PAGE}
 use Rattle.kv_types.specs.Spans.{Row}
 use Rattle.kv_types.specs.Maps.{map_of}
 use Rattle.kv_types.specs.Spans.{Span}
 use Rattle.kv_types.specs.Pages.{Map, IsRowOf, PrecedesRow, IsWalk, row_size, KeepsLimits, IsFull}
 use Rattle.kv_types.specs.Pages.{walk_of, fitting_rows, PagesAgree, OnePage}
-use Rattle.kv_types.specs.ByteOrderLemmas.{below_is_strict}
 use Rattle.kv_types.specs.OrderLemmas.{among_from_Contains, among_of_All, rises_from_AllPairs}
 use Rattle.kv_types.specs.OrderLemmas.{same_list}
 use Rattle.kv_types.proofs.Walks.{walks}

@@ -1,14 +1,27 @@
--- The view of all entries of a list of batches is the map of its beginnings.
+-- The view of all entries of a list of batches is what its beginnings leave, and of rows their map.
 use Rattle.std.proofs.Common.{◌≡◌, ◌⊎◌, inl, inr, ⊎_elim, ℕ, zero, suc, ◌<◌, ◌≤◌}
 use Rattle.std.proofs.Common.{List, [], ◌∷◌, ◌++◌, take, slice_get, Option, Some, None}
-use Rattle.std.proofs.Common.{sym, refl, ◌∙◌, ap, subst, arith, append-nil}
+use Rattle.std.proofs.Common.{sym, refl, ◌∙◌, ap, subst, arith, append-nil, cond, map}
 use Rattle.std.specs.Option.{option_or, option_flatten}
 use Rattle.std.proofs.lemmas.Bool.{cases_lt}
 use Rattle.std.proofs.lemmas.Grind.{flat_map-append}
-use Rattle.kv_types.specs.Content.{BatchContent, edits_of}
-use Rattle.kv_types.specs.Maps.{joined, last_edit, map_of}
-use Rattle.kv_types.specs.Entries.{Entry, IsSeen, ViewShows, ViewsAreMaps, all_entries}
+use Rattle.std.proofs.lemmas.List.Concat.{flat_map-cons}
+use Rattle.std.specs.List.{flat_map}
+use Rattle.std.specs.Str.{bytes_eq}
+use Rattle.byte_fields.specs.{row_key}
+use Rattle.kv_types.specs.declared.edit.Edit.{Edit}
+use Rattle.kv_types.specs.declared.edit.Edit.TheVariants.{Put, Delete}
+use Rattle.kv_types.specs.declared.mark.Mark.{Mark}
+use Rattle.kv_types.specs.Content.{BatchContent, edits_of, mark_of}
+use Rattle.kv_types.specs.Maps.{joined, last_edit}
+use Rattle.kv_types.specs.Entries.{Entry, IsSeen, RowsAreStored, ViewShows, ViewsAreMaps}
+use Rattle.kv_types.specs.Entries.{ViewsAreStored}
+use Rattle.kv_types.specs.Entries.{all_entries, mark_edits, row_edit, stored_edits, stored_map_of}
 use Rattle.kv_types.proofs.MapLaws.{last_edit-append}
+
+-- the edits of stored keys of all batches in order
+abbrev stored_joined : List BatchContent → List Edit
+stored_joined batches = flat_map stored_edits batches
 
 -- ---- beginnings of a list
 
@@ -29,18 +42,19 @@ there_or_not : {A : Type 0} (found : Option A) → (found ≡ None) ⊎ ((x : A)
 there_or_not None = inl refl
 there_or_not (Some x) = inr (x, refl)
 
-joined-push : (l : List BatchContent) (batch : BatchContent)
-    → joined (l ++ batch ∷ []) ≡ joined l ++ edits_of batch
-joined-push l batch =
-    flat_map-append edits_of l (batch ∷ []) ∙ ap (λ z. joined l ++ z) (append-nil (edits_of batch))
+stored-push : (l : List BatchContent) (batch : BatchContent)
+    → stored_joined (l ++ batch ∷ []) ≡ stored_joined l ++ stored_edits batch
+stored-push l batch =
+    flat_map-append stored_edits l (batch ∷ [])
+    ∙ ap (λ z. stored_joined l ++ z) (append-nil (stored_edits batch))
 
 -- the last edit in one batch more
 last-push : (l : List BatchContent) (batch : BatchContent) (key : List ℕ)
-    → last_edit (joined (l ++ batch ∷ [])) key
-    ≡ option_or (last_edit (edits_of batch) key) (last_edit (joined l) key)
+    → last_edit (stored_joined (l ++ batch ∷ [])) key
+    ≡ option_or (last_edit (stored_edits batch) key) (last_edit (stored_joined l) key)
 last-push l batch key =
-    ap (λ edits. last_edit edits key) (joined-push l batch)
-    ∙ last_edit-append (joined l) (edits_of batch) key
+    ap (λ edits. last_edit edits key) (stored-push l batch)
+    ∙ last_edit-append (stored_joined l) (stored_edits batch) key
 
 -- ---- a view at one number more
 
@@ -87,7 +101,7 @@ module _ (l : List BatchContent) (key : List ℕ) where
   batch_of : (number : ℕ) (value : Option (List ℕ)) → all_entries l
       (entry_at key (suc number) value)
       → (batch : BatchContent) × (slice_get l number ≡ Some batch)
-      × (last_edit (edits_of batch) key ≡ Some value)
+      × (last_edit (stored_edits batch) key ≡ Some value)
   batch_of number value (i, batch, is, (same, last)) =
       let at : i ≡ number = cc (same) in
       (batch, subst (λ n. slice_get l n ≡ Some batch) at is, last)
@@ -102,27 +116,28 @@ module _ (l : List BatchContent) (key : List ℕ) where
       absurd (let h : None ≡ Some it.0 = sym none ∙ it.1 in cc)
 
   none_unedited : (at : ℕ) (batch : BatchContent) → slice_get l at ≡ Some batch
-      → last_edit (edits_of batch) key ≡ None → (value : Option (List ℕ))
+      → last_edit (stored_edits batch) key ≡ None → (value : Option (List ℕ))
       → all_entries l (entry_at key (suc at) value) → ⊥
   none_unedited at batch is none value has =
       let it = batch_of at value has in
       let same : it.0 ≡ batch = let h : Some it.0 ≡ Some batch = sym it.1 ∙ is in cc in
-      let found : last_edit (edits_of batch) key ≡ Some value =
-      subst (λ b. last_edit (edits_of b) key ≡ Some value) same it.2 in
+      let found : last_edit (stored_edits batch) key ≡ Some value =
+      subst (λ b. last_edit (stored_edits b) key ≡ Some value) same it.2 in
       absurd (let h : None ≡ Some value = sym none ∙ found in cc)
 
   -- the value after one batch more
   with_batch : (at : ℕ) (batch : BatchContent) → slice_get l at ≡ Some batch
-      → (found : Option (Option (List ℕ))) → last_edit (edits_of batch) key ≡ found
-      → ViewShows at (all_entries l) key (map_of (take at l) key)
+      → (found : Option (Option (List ℕ))) → last_edit (stored_edits batch) key ≡ found
+      → ViewShows at (all_entries l) key (stored_map_of (take at l) key)
       → ViewShows (suc at) (all_entries l) key
-      (option_flatten (option_or found (last_edit (joined (take at l)) key)))
+      (option_flatten (option_or found (last_edit (stored_joined (take at l)) key)))
   with_batch at batch is None e shown =
-      shows_skip (all_entries l) at key (map_of (take at l) key) (none_unedited at batch is e) shown
+      shows_skip (all_entries l) at key (stored_map_of (take at l) key)
+      (none_unedited at batch is e) shown
   with_batch at batch is (Some value) e shown =
       shows_new (all_entries l) (suc at) key value (at, batch, is, (refl, e))
 
-  shown_value : (at : ℕ) → ViewShows at (all_entries l) key (map_of (take at l) key)
+  shown_value : (at : ℕ) → ViewShows at (all_entries l) key (stored_map_of (take at l) key)
   shown_value zero = inr (
     (λ other seen same.
         let le = seen.1 in
@@ -134,20 +149,23 @@ module _ (l : List BatchContent) (key : List ℕ) where
   )
   shown_value (suc at) = ⊎_elim
       (λ (none : slice_get l at ≡ None).
-      subst (λ z. ViewShows (suc at) (all_entries l) key (map_of z key)) (sym (take_end l at none))
-      (shows_skip (all_entries l) at key (map_of (take at l) key) (none_at_end at none)
+      subst (λ z. ViewShows (suc at) (all_entries l) key (stored_map_of z key))
+      (sym (take_end l at none))
+      (shows_skip (all_entries l) at key (stored_map_of (take at l) key) (none_at_end at none)
       (shown_value at)))
       (λ (it : (batch : BatchContent) × (slice_get l at ≡ Some batch)).
       let last = last_push_at at it.0 it.1 in
       subst (λ z. ViewShows (suc at) (all_entries l) key z) (sym (ap option_flatten last))
-      (with_batch at it.0 it.1 (last_edit (edits_of it.0) key) refl (shown_value at)))
+      (with_batch at it.0 it.1 (last_edit (stored_edits it.0) key) refl (shown_value at)))
       (there_or_not (slice_get l at))
     where
       last_push_at : (at : ℕ) (batch : BatchContent) → slice_get l at ≡ Some batch
-          → last_edit (joined (take (suc at) l)) key
-          ≡ option_or (last_edit (edits_of batch) key) (last_edit (joined (take at l)) key)
+          → last_edit (stored_joined (take (suc at) l)) key
+          ≡ option_or (last_edit (stored_edits batch) key)
+          (last_edit (stored_joined (take at l)) key)
       last_push_at at batch is =
-          ap (λ z. last_edit (joined z) key) (take_next l at batch is) ∙ last-push (take at l) batch
+          ap (λ z. last_edit (stored_joined z) key) (take_next l at batch is)
+          ∙ last-push (take at l) batch
           key
 
   -- a number and a key have one entry
@@ -158,7 +176,7 @@ module _ (l : List BatchContent) (key : List ℕ) where
       let x = batch_of m a p in
       let y = batch_of m b (subst (λ z. all_entries l (entry_at key z b)) (sym same) q) in
       let one : x.0 ≡ y.0 = let h : Some x.0 ≡ Some y.0 = sym x.1 ∙ y.1 in cc in
-      let z : Some a ≡ Some b = sym (subst (λ c. last_edit (edits_of c) key ≡ Some a) one x.2)
+      let z : Some a ≡ Some b = sym (subst (λ c. last_edit (stored_edits c) key ≡ Some a) one x.2)
       ∙ y.2 in
       cc
 
@@ -172,9 +190,56 @@ module _ (l : List BatchContent) (key : List ℕ) where
   one_view at a b (inr u) (inl (n, q)) = absurd (u.0 (entry_at key n b) q.seen refl)
   one_view at a b (inr u) (inr v) = u.1 ∙ sym v.1
 
-pub views_are_maps : ViewsAreMaps
-views_are_maps batches at key value = (
-  (λ shown. one_view batches key at (map_of (take at batches) key) value
+pub views_are_stored : ViewsAreStored
+views_are_stored batches at key value = (
+  (λ shown. one_view batches key at (stored_map_of (take at batches) key) value
       (shown_value batches key at) shown),
   (λ is. subst (λ z. ViewShows at (all_entries batches) key z) is (shown_value batches key at)),
 )
+
+-- ---- rows
+
+-- the last edit of a row's stored key is that of its key
+row_last : (edits : List Edit) (key : List ℕ)
+    → last_edit (map row_edit edits) (row_key key) ≡ last_edit edits key
+row_last [] key = refl
+row_last (Put k v ∷ edits) key =
+    ap (λ r. option_or r (cond (bytes_eq k key) (Some (Some v)) None)) (row_last edits key)
+row_last (Delete k ∷ edits) key =
+    ap (λ r. option_or r (cond (bytes_eq k key) (Some None) None)) (row_last edits key)
+
+-- a mark is no edit of a row
+mark_is_apart : (mark : Option Mark) (key : List ℕ)
+    → last_edit (mark_edits mark) (row_key key) ≡ None
+mark_is_apart None key = refl
+mark_is_apart (Some mark) key = refl
+
+-- what a batch leaves at a row's stored key is what its edits leave at the key
+batch_rows : (batch : BatchContent) (key : List ℕ)
+    → last_edit (stored_edits batch) (row_key key) ≡ last_edit (edits_of batch) key
+batch_rows batch key =
+    last_edit-append (map row_edit (edits_of batch)) (mark_edits (mark_of batch)) (row_key key)
+    ∙ ap (λ r. option_or r (last_edit (map row_edit (edits_of batch)) (row_key key)))
+    (mark_is_apart (mark_of batch) key)
+    ∙ row_last (edits_of batch) key
+
+-- and so for all batches
+all_rows : (batches : List BatchContent) (key : List ℕ)
+    → last_edit (stored_joined batches) (row_key key) ≡ last_edit (joined batches) key
+all_rows [] key = refl
+all_rows (batch ∷ batches) key =
+    ap (λ edits. last_edit edits (row_key key)) (flat_map-cons stored_edits batch batches)
+    ∙ last_edit-append (stored_edits batch) (stored_joined batches) (row_key key)
+    ∙ ap (λ r. option_or r (last_edit (stored_edits batch) (row_key key))) (all_rows batches key)
+    ∙ ap (λ r. option_or (last_edit (joined batches) key) r) (batch_rows batch key)
+    ∙ sym (last_edit-append (edits_of batch) (joined batches) key)
+    ∙ sym (ap (λ edits. last_edit edits key) (flat_map-cons edits_of batch batches))
+
+pub rows_are_stored : RowsAreStored
+rows_are_stored batches key = ap option_flatten (all_rows batches key)
+
+pub views_are_maps : ViewsAreMaps
+views_are_maps batches at key value =
+    let same = rows_are_stored (take at batches) key in
+    let stored = views_are_stored batches at (row_key key) value in
+    (λ shown. sym same ∙ stored.0 shown, λ is. stored.1 (same ∙ is))

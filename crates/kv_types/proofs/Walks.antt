@@ -12,15 +12,15 @@ use Rattle.std.specs.Str.{bytes_eq}
 use Rattle.std.proofs.lemmas.Bool.Decides.{Decides-and}
 use Rattle.std.proofs.lemmas.Map.Text.{is_eq-slice_cmp}
 use Rattle.std.proofs.lemmas.Slice.Eq.{bytes_eq-Decides}
+use Rattle.byte_fields.specs.Order.{IsBelow}
+use Rattle.byte_fields.specs.ByteOrderLemmas.{below-Less, lt_below, below_is_strict}
 use Rattle.kv_types.specs.declared.edit.Edit.{Edit}
 use Rattle.kv_types.specs.Spans.{Row}
 use Rattle.kv_types.specs.Content.{BatchContent}
-use Rattle.kv_types.specs.Order.{IsBelow}
 use Rattle.kv_types.specs.Maps.{key_of, value_put, joined, last_edit, map_of}
 use Rattle.kv_types.specs.Spans.{Span}
 use Rattle.kv_types.specs.Pages.{IsWithin, IsRowOf, PrecedesRow, IsWalk, with_key, keys_of}
 use Rattle.kv_types.specs.Pages.{is_within, row_of_key, walk_of}
-use Rattle.kv_types.specs.ByteOrderLemmas.{below-Less, lt_below, below_is_strict}
 use Rattle.kv_types.specs.OrderLemmas.{Among, Contains-among, All-among, Rises, AllPairs-rises}
 use Rattle.kv_types.specs.OrderLemmas.{Contains-reverse, All-reverse, AllPairs-reverse}
 

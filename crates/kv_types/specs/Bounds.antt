@@ -1,6 +1,7 @@
 -- The bounds of keys, values, batches, pages and numbers, as numbers.
 use Rattle.std.specs.Prelude.{◌≡◌, ◌-◌, ◌^◌}
-use Rattle.kv_types.specs.declared.bounds.TheConstants.{MAX_KEY, MAX_VALUE, MAX_EDITS, MAX_BATCH}
+use Rattle.byte_fields.specs.declared.stored_key.TheConstants.{MAX_KEY}
+use Rattle.kv_types.specs.declared.bounds.TheConstants.{MAX_VALUE, MAX_EDITS, MAX_BATCH}
 use Rattle.kv_types.specs.declared.bounds.TheConstants.{MAX_ROWS, MAX_PAGE, ROW_OVERHEAD}
 use Rattle.kv_types.specs.declared.bounds.TheConstants.{MAX_CACHE, MAX_NUMBER}
 

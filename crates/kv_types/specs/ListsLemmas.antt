@@ -1,5 +1,6 @@
 -- Lists that begin one another, places and parts.
 use Rattle.std.proofs.Common.{◌≡◌, inl, inr, ℕ, zero, suc, ◌≤◌, List, [], ◌∷◌, ◌++◌, length, take}
+use Rattle.std.proofs.Common.{slice_get}
 use Rattle.std.proofs.Common.{Some, None, true, ◌==◌, ⊎_elim, sym, refl, ◌∙◌, ap, subst, arith}
 use Rattle.std.proofs.Common.{take_at, append_assoc, append-nil, length-append, eqb-true, eq-eqb}
 use Rattle.std.proofs.lemmas.Bool.{cond_both, false≢true}
@@ -77,6 +78,27 @@ begins-place {l = l} n x b e = subst (λ k. place k n ≡ Some x) b.whole (place
 -- an appended element is at the last place
 pub place_last : {A : Type 0} (l : List A) (x : A) → place (l ++ x ∷ []) (suc (length l)) ≡ Some x
 place_last l x = place_middle l [] x
+
+-- an element at an early place of two lists in a row is in the first
+pub place_before : {A : Type 0} (l r : List A) (n : ℕ) (x : A) → place (l ++ r) n ≡ Some x
+    → n ≤ length l → place l n ≡ Some x
+place_before [] [] n x e le = e
+place_before [] (y ∷ r) zero x e le = absurd (cc)
+place_before [] (y ∷ r) (suc n) x e le = absurd (omega arith)
+place_before (y ∷ l) r zero x e le = e
+place_before (y ∷ l) r (suc zero) x e le = e
+place_before (y ∷ l) r (suc (suc n)) x e le = place_before l r (suc n) x e (omega arith)
+
+-- there is no place zero
+pub none_at_zero : {A : Type 0} (l : List A) (x : A) → place l zero ≡ Some x → ⊥
+none_at_zero [] x at = absurd (cc)
+none_at_zero (y ∷ l) x at = absurd (cc)
+
+-- places are counted from 1, and a slice from 0
+pub place-slice_get : {A : Type 0} (l : List A) (i : ℕ) → place l (suc i) ≡ slice_get l i
+place-slice_get [] i = refl
+place-slice_get (x ∷ l) zero = refl
+place-slice_get (x ∷ l) (suc i) = place-slice_get l i
 
 -- the first elements begin a list
 pub begins_take : {A : Type 0} (k : ℕ) (l : List A) → IsPrefix (take k l) l

@@ -6,11 +6,11 @@ use Rattle.std.specs.List.{All, AllPairs, Contains, sum_by, filter_map}
 use Rattle.std.specs.Option.{option_map, option_map_or}
 use Rattle.std.specs.Ordering.{nat_cmp, is_lt, match_ordering}
 use Rattle.std.specs.Cmp.Lexicographic.{slice_cmp}
+use Rattle.byte_fields.specs.Order.{IsBelow}
 use Rattle.kv_types.specs.declared.bounds.TheConstants.{MAX_PAGE, ROW_OVERHEAD}
 use Rattle.kv_types.specs.declared.edit.Edit.{Edit}
 use Rattle.kv_types.specs.Spans.{Row}
 use Rattle.kv_types.specs.Content.{BatchContent}
-use Rattle.kv_types.specs.Order.{IsBelow}
 use Rattle.kv_types.specs.Maps.{key_of, joined, map_of}
 use Rattle.kv_types.specs.Spans.{Span, Rows}
 

@@ -1,7 +1,4 @@
-//! The bounds of keys, values, batches, pages and numbers.
-
-/// The greatest length of a key, in bytes.
-pub const MAX_KEY: usize = 1024;
+//! The bounds of values, batches, pages and numbers.
 
 /// The greatest length of a value, in bytes.
 pub const MAX_VALUE: usize = 16384;

@@ -6,14 +6,12 @@ ghost use Rattle.std.specs.Cmp.Lexicographic.{pointwise, slice_cmp, nat_list_eq_
 ghost use Rattle.std.specs.Cmp.Lexicographic.{nat_list_cmp_total, texts_po, texts_ties};
 ghost use Rattle.std.specs.Ordering.{nat_cmp};
 ghost use Rattle.std.proofs.Common.{refl};
-ghost use Rattle.kv_types.specs.Order.{IsBelow};
-ghost use Rattle.kv_types.specs.StoredKeys.{lent_key};
 ghost use Rattle.byte_fields.specs.{text_bytes, text_at};
-ghost use Rattle.kv_types.specs.Reading.{ReadsBytes};
+ghost use Rattle.byte_fields.specs.Order.{IsBelow};
+ghost use Rattle.byte_fields.specs.{ReadsBytes, lent_key, row_key};
 
-use crate::bounds::MAX_KEY;
-use crate::{KvError, LentKey};
-use byte_fields::{put_text, read_text};
+use crate::KvError;
+use byte_fields::{LentKey, MAX_KEY, Space, StoredKey, put_text, read_text};
 use std::alloc::{AllocError, Global};
 use std::cmp::Ordering;
 use std::marker::Model;
@@ -21,18 +19,21 @@ use std::marker::Model;
 /// A key: at most 1,024 bytes. Keys compare byte by byte.
 #[derive(Debug, Drop)]
 pub struct Key {
-    bytes: Vec<u8>,
+    // The key as that of a row's entry, so that entries are looked up without a copy.
+    stored: StoredKey,
 }
 
 impl Model for Key {
-    ghost use Rattle.std.specs.Prelude.{◌≤◌, List, ℕ, length};
-    ghost use Rattle.kv_types.specs.declared.bounds.TheConstants.{MAX_KEY};
+    ghost use Rattle.std.specs.Prelude.{◌≡◌, ◌≤◌, List, ℕ, length};
+    ghost use Rattle.byte_fields.specs.declared.stored_key.TheConstants.{MAX_KEY};
+    ghost use Rattle.byte_fields.specs.{bytes_of, row_key};
 
     ghost Value = { List ℕ };
 
-    ghost view = { λ key. key.bytes.items };
+    ghost view = { λ key. bytes_of key.stored };
 
-    ghost invariant = { λ key. length key.bytes.items ≤ MAX_KEY };
+    ghost invariant = { λ key. (key.stored ≡ row_key (bytes_of key.stored))
+        × (length (bytes_of key.stored) ≤ MAX_KEY) };
 }
 
 impl Key {
@@ -45,22 +46,33 @@ impl Key {
         if bytes.len() > MAX_KEY {
             return Err(KvError::KeyTooLong);
         }
-        Ok(Key { bytes })
+        Ok(Key {
+            stored: StoredKey::new(Space::Rows, bytes),
+        })
     }
 
     pub fn as_bytes(&self) -> &[u8]
         ensures bytes { result.now ≡ self.now }
         ensures limit { length self.now ≤ MAX_KEY }
     {
-        &self.bytes
+        self.stored.lent().as_bytes()
     }
 
-    /// The key as that of an entry.
+    /// The key as that of a row's entry.
+    #[inline(always)]
+    pub fn stored(&self) -> &StoredKey
+        ensures { result.now ≡ row_key self.now }
+    {
+        &self.stored
+    }
+
+    /// The key as that of a row's entry, lent.
+    #[inline(always)]
     pub fn lent(&self) -> LentKey<'_>
-        ensures key { lent_key result ≡ self.now }
+        ensures key { lent_key result ≡ row_key self.now }
         ensures limit { length self.now ≤ MAX_KEY }
     {
-        LentKey::new(&self.bytes)
+        self.stored.lent()
     }
 
     /// Appends the spelling of the key to `out`.
@@ -68,7 +80,7 @@ impl Key {
         ensures spelled { OnOk result (out.new.items ≡ out.old.items ++ text_bytes self.now) }
         ensures limit { length self.now ≤ MAX_KEY }
     {
-        put_text(out, &self.bytes)
+        put_text(out, self.as_bytes())
     }
 
     /// The key at the front of the bytes, and the bytes behind it, if there is one.
@@ -82,8 +94,8 @@ impl Key {
         let Some((text, rest)) = read_text(MAX_KEY, bytes) else {
             return Ok(None);
         };
-        let bytes = Vec::from_slice(alloc, text)?;
-        Ok(Some((Key { bytes }, rest)))
+        let stored = LentKey::new(Space::Rows, text).to_stored(alloc)?;
+        Ok(Some((Key { stored }, rest)))
     }
 
     pub fn is_below(&self, other: &Key) -> bool
@@ -96,7 +108,7 @@ impl Key {
         ensures { IfOk result (λ key. key ≡ self.now) }
     {
         Ok(Key {
-            bytes: Vec::from_slice(*self.bytes.allocator(), &self.bytes)?,
+            stored: self.stored.clone()?,
         })
     }
 }
@@ -107,7 +119,7 @@ impl PartialEq for Key {
     ghost laws = { partial_equiv_from_equiv nat_list_eq_equiv };
 
     fn eq(&self, other: &Key) -> bool {
-        self.bytes.as_slice() == other.bytes.as_slice()
+        self.as_bytes() == other.as_bytes()
     }
 }
 

@@ -2,22 +2,18 @@
 //! their clauses are the laws.
 ghost use Rattle.std.specs.Prelude.{◌≡◌, ◌↔◌, ℕ, List, true};
 ghost use Rattle.kv_types.specs.Lists.{Part, is_part};
-ghost use Rattle.kv_types.specs.Order.{IsBelow, IsStrictOrder, LessIsBelow};
 ghost use Rattle.kv_types.specs.Spelling.{SpellingsDiffer};
 ghost use Rattle.kv_types.specs.Maps.{MapsAgree};
-ghost use Rattle.kv_types.specs.Entries.{ViewsAreMaps};
+ghost use Rattle.kv_types.specs.Marks.{HeldIsLast};
+ghost use Rattle.kv_types.specs.Content.{BatchContent};
+ghost use Rattle.kv_types.specs.Entries.{RowsAreStored, ViewsAreMaps, ViewsAreMarks};
+ghost use Rattle.kv_types.specs.Entries.{ViewsAreStored};
 ghost use Rattle.kv_types.specs.Pages.{OnePage, PagesAgree};
 ghost use Rattle.kv_types.specs.Bounds.{BoundsAre};
 ghost use Rattle.kv_types.specs.Refusals.{error_number};
 ghost use Rattle.kv_types.specs.Examples.{BatchExamples, EntryExamples};
 
 use crate::{KvError, Number};
-
-/// Byte order is a strict order of all keys, and it is the order in which keys compare.
-pub fn byte_order_is_strict()
-    ensures strict { IsStrictOrder IsBelow }
-    ensures less { LessIsBelow }
-{}
 
 /// No spelling is a prefix of another, and no two batches have the same spelling.
 pub fn spellings_differ()
@@ -29,10 +25,27 @@ pub fn maps_agree()
     ensures { MapsAgree }
 {}
 
-/// The view at a number of the entries of a list of batches shows of each key exactly what the map
-/// of so many first batches has.
+/// The view at a number of the entries of a list of batches shows at each stored key exactly what
+/// so many first batches leave there: at the key of a row, what their map has.
 pub fn views_are_maps()
-    ensures { ViewsAreMaps }
+    ensures stored { ViewsAreStored }
+    ensures rows { ViewsAreMaps }
+{}
+
+/// What batches leave at the key of a row is what their map has.
+pub fn rows_are_stored()
+    ensures { RowsAreStored }
+{}
+
+/// The view at a number of the entries of lawful batches has of each client exactly the entry of
+/// the last mark among so many first batches: its request, and the number of its batch.
+pub fn views_are_marks()
+    ensures { ViewsAreMarks }
+{}
+
+/// The mark that a list holds for a client is that of the last batch that bears one of its marks.
+pub fn held_is_last()
+    ensures { (list : List BatchContent) (client : ℕ) → HeldIsLast list client }
 {}
 
 /// A map has exactly one page in a range, and the page as a function is that one.

@@ -4,6 +4,7 @@ ghost use Rattle.std.specs.Prelude.{option_copied};
 
 use crate::bounds::MAX_ROWS;
 use crate::{Key, KvError};
+use byte_fields::LentKey;
 use std::alloc::AllocError;
 use std::marker::Model;
 
@@ -34,7 +35,9 @@ impl Model for Range {
 }
 
 impl Range {
+    ghost use Rattle.byte_fields.specs.{lent_key};
     ghost use Rattle.kv_types.specs.Pages.{IsWithin};
+    ghost use Rattle.kv_types.specs.Spans.{end_of_rows};
 
     /// The keys from `from` on, below `to` where there is one. An answer has at most `limit` rows.
     /// `BadLimit` refuses a limit of 0 or above 1,024, and nothing else is refused.
@@ -67,6 +70,16 @@ impl Range {
         ensures { option_copied result ≡ self.now.to }
     {
         self.to.as_ref()
+    }
+
+    /// The least stored key behind the rows of the range, whether it is bounded or not.
+    pub fn end_of_rows(&self) -> LentKey<'_>
+        ensures { lent_key result ≡ end_of_rows self.now.to }
+    {
+        match &self.to {
+            Some(to) => to.lent(),
+            None => LentKey::behind_rows(),
+        }
     }
 
     /// Whether the walk goes from the greatest key to the least.

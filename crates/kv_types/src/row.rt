@@ -1,9 +1,9 @@
 // A row: a key and its value.
 ghost use Rattle.std.specs.Prelude.{◌≡◌, ◌≤◌, length, IfOk};
-ghost use Rattle.kv_types.specs.declared.bounds.TheConstants.{MAX_KEY, MAX_VALUE};
-ghost use Rattle.kv_types.specs.StoredKeys.{lent_key};
+ghost use Rattle.byte_fields.specs.declared.stored_key.TheConstants.{MAX_KEY};
+ghost use Rattle.kv_types.specs.declared.bounds.TheConstants.{MAX_VALUE};
 
-use crate::LentKey;
+use crate::Key;
 use crate::bounds::ROW_OVERHEAD;
 use std::alloc::{AllocError, Global};
 use std::marker::Model;
@@ -18,7 +18,8 @@ pub struct Row {
 
 impl Model for Row {
     ghost use Rattle.std.specs.Prelude.{◌≤◌, ◌-◌, drop, length, take};
-    ghost use Rattle.kv_types.specs.declared.bounds.TheConstants.{MAX_KEY, MAX_VALUE};
+    ghost use Rattle.byte_fields.specs.declared.stored_key.TheConstants.{MAX_KEY};
+    ghost use Rattle.kv_types.specs.declared.bounds.TheConstants.{MAX_VALUE};
     ghost use Rattle.kv_types.specs.Spans.{Row};
 
     ghost Value = { Row };
@@ -36,24 +37,33 @@ impl Row {
     ghost use Rattle.kv_types.specs.Pages.{row_size};
 
     /// The row of this key and value, with memory of its own.
-    pub fn new(alloc: Global, key: LentKey, value: &[u8]) -> Result<Row, AllocError>
-        requires key { length (lent_key key) ≤ MAX_KEY }
+    pub fn new(alloc: Global, key: &[u8], value: &[u8]) -> Result<Row, AllocError>
+        requires key { length key.now ≤ MAX_KEY }
         requires value { length value.now ≤ MAX_VALUE }
-        ensures { IfOk result
-            (λ row. row ≡ record { key = lent_key key.entry; value = value.now }) }
+        ensures { IfOk result (λ row. row ≡ record { key = key.now; value = value.now }) }
     {
         let mut bytes = Vec::with_capacity(alloc, key.len() + value.len())?;
-        bytes.extend_from_slice(key.as_bytes())?;
+        bytes.extend_from_slice(key)?;
         bytes.extend_from_slice(value)?;
         let key_len = key.len();
         Ok(Row { bytes, key_len })
     }
 
-    pub fn key(&self) -> LentKey<'_>
-        ensures key { lent_key result ≡ self.now.key }
+    pub fn key(&self) -> &[u8]
+        ensures key { result.now ≡ self.now.key }
         ensures limit { length self.now.key ≤ MAX_KEY }
     {
-        LentKey::new(&self.bytes[..self.key_len])
+        &self.bytes[..self.key_len]
+    }
+
+    /// A copy of the key.
+    pub fn to_key(&self, alloc: Global) -> Result<Key, AllocError>
+        ensures { IfOk result (λ key. key ≡ self.now.key) }
+    {
+        match Key::new(Vec::from_slice(alloc, self.key())?) {
+            Ok(key) => Ok(key),
+            Err(_) => unreachable!(),
+        }
     }
 
     pub fn value(&self) -> &[u8]

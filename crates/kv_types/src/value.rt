@@ -2,7 +2,7 @@
 ghost use Rattle.std.specs.Prelude.{◌≡◌, ◌<◌, ◌≤◌, length, IfOk, IfErr};
 ghost use Rattle.std.specs.Prelude.{Ok, None, List, ℕ, ◌++◌, OnOk, IfSome};
 ghost use Rattle.byte_fields.specs.{text_bytes, text_at};
-ghost use Rattle.kv_types.specs.Reading.{ReadsBytes};
+ghost use Rattle.byte_fields.specs.{ReadsBytes};
 
 use crate::KvError;
 use crate::bounds::MAX_VALUE;

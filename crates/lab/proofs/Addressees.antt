@@ -4,7 +4,7 @@ use Rattle.std.proofs.Common.{Option, Some, None, true, refl, sym, ap, subst, �
 use Rattle.std.proofs.Common.{inl}
 use Rattle.std.specs.List.{AllZip, AllByRecursion}
 use Rattle.std.proofs.lemmas.List.Elements.{All-weaker, recursion_from_All}
-use Rattle.kv_types.specs.{BatchContent, has, place}
+use Rattle.kv_types.specs.{BatchContent, Edits, has, place}
 use Rattle.configurations.specs.{Configurations, at_epoch}
 use Rattle.chain_model.specs.{Message as ModelFrame, addressee}
 use Rattle.chain_model.specs.{InOrder, ForwardIsTrue, SystemEvent as ModelEvent, reached}
@@ -22,18 +22,18 @@ use Rattle.lab.proofs.Places.{place_zero, place_each}
 -- ---- addressees
 
 -- a frame to node x has this addressee
-same_addressee : (x : ℕ) (it : Frame) (f : ModelFrame BatchContent) → frame_as x it ≡ Some f →
+same_addressee : (x : ℕ) (it : Frame) (f : ModelFrame Edits) → frame_as x it ≡ Some f →
     addressee f ≡ x
 same_addressee x (frame.Forward epoch from number batch) f is =
-    subst (λ (o : Option (ModelFrame BatchContent)). IsTo o) is refl
+    subst (λ (o : Option (ModelFrame Edits)). IsTo o) is refl
   where
-    IsTo : Option (ModelFrame BatchContent) → Type 0
+    IsTo : Option (ModelFrame Edits) → Type 0
     IsTo None = Unit {0}
     IsTo (Some g) = addressee g ≡ x
 same_addressee x (frame.Ack epoch from committed have) f is =
-    subst (λ (o : Option (ModelFrame BatchContent)). IsTo o) is refl
+    subst (λ (o : Option (ModelFrame Edits)). IsTo o) is refl
   where
-    IsTo : Option (ModelFrame BatchContent) → Type 0
+    IsTo : Option (ModelFrame Edits) → Type 0
     IsTo None = Unit {0}
     IsTo (Some g) = addressee g ≡ x
 same_addressee x (frame.Notice epoch config) f is = absurd (cc)
@@ -50,12 +50,12 @@ same_addressee x (frame.Refused request why) f is = absurd (cc)
 same_addressee x (frame.Closed request number) f is = absurd (cc)
 
 -- the addressee of a frame that was sent is of configuration 0
-pub addressed : (cs : Configurations) (es : List (ModelEvent BatchContent)) → InOrder cs es →
-    (p x : ℕ) (it : Frame) (f : ModelFrame BatchContent) →
+pub addressed : (cs : Configurations) (es : List (ModelEvent Edits)) → InOrder cs es →
+    (p x : ℕ) (it : Frame) (f : ModelFrame Edits) →
     place (reached cs es).frames p ≡ Some f → frame_as x it ≡ Some f →
     has (at_epoch cs 0) x ≡ true
 addressed cs es order p x it f there is =
-    let IsCreated : ModelFrame BatchContent → Type 0 =
+    let IsCreated : ModelFrame Edits → Type 0 =
     λ g. has (at_epoch cs 0) (addressee g) ≡ true in
     subst (λ (y : ℕ). has (at_epoch cs 0) y ≡ true) (same_addressee x it f is)
     (place_each IsCreated (reached cs es).frames p f order.created there)
@@ -63,12 +63,12 @@ addressed cs es order p x it f there is =
 -- ---- ranges
 
 -- a Forward's number is that of a batch
-abbrev pub IsNumbered : ModelFrame BatchContent → Type 0
+abbrev pub IsNumbered : ModelFrame Edits → Type 0
 IsNumbered (Message.Forward to epoch from number batch) = 1 ≤ number
 IsNumbered (Message.Ack to epoch from committed have) = Unit {0}
 
 -- .. since it is the place of one
-numbered : (cs : Configurations) (lists : ℕ → List BatchContent) (f : ModelFrame BatchContent) →
+numbered : (cs : Configurations) (lists : ℕ → List BatchContent) (f : ModelFrame Edits) →
     ForwardIsTrue cs lists f → IsNumbered f
 numbered cs lists (Message.Forward to epoch from zero batch) tells =
     absurd (no_batch (sym (place_zero (lists from)) ∙ tells from (inl refl)))
@@ -78,7 +78,7 @@ numbered cs lists (Message.Forward to epoch from zero batch) tells =
 numbered cs lists (Message.Forward to epoch from (suc number) batch) tells = omega arith
 numbered cs lists (Message.Ack to epoch from committed have) tells = tt
 
-pub all_numbered : (cs : Configurations) (es : List (ModelEvent BatchContent)) → InOrder cs es →
+pub all_numbered : (cs : Configurations) (es : List (ModelEvent Edits)) → InOrder cs es →
     AllByRecursion IsNumbered (reached cs es).frames
 all_numbered cs es order =
     recursion_from_All IsNumbered (reached cs es).frames
@@ -92,12 +92,12 @@ back P [] ys all = all
 back P (x ∷ xs) ys all = back P xs ys all.1
 
 -- such a frame has its bounds
-bounds : (to : ℕ) (it : Frame) (f : ModelFrame BatchContent) → frame_as to it ≡ Some f →
+bounds : (to : ℕ) (it : Frame) (f : ModelFrame Edits) → frame_as to it ≡ Some f →
     IsNumbered f → HasBounds it
 bounds to (frame.Forward epoch from number batch) f is numbered =
-    subst (λ (o : Option (ModelFrame BatchContent)). IsIn o) (sym is) numbered
+    subst (λ (o : Option (ModelFrame Edits)). IsIn o) (sym is) numbered
   where
-    IsIn : Option (ModelFrame BatchContent) → Type 0
+    IsIn : Option (ModelFrame Edits) → Type 0
     IsIn None = Unit {0}
     IsIn (Some g) = IsNumbered g
 bounds to (frame.Ack epoch from committed have) f is numbered = tt
@@ -116,7 +116,7 @@ bounds to (frame.Closed request number) f is numbered = tt
 
 -- the frames that are sent are posted
 pub kept_all : (x : ℕ) (more : List Posted) (sent : List Sent)
-    (frames : List (ModelFrame BatchContent)) → AllZip (IsPosted x) more sent →
+    (frames : List (ModelFrame Edits)) → AllZip (IsPosted x) more sent →
     AreFrames sent frames → AllByRecursion IsNumbered frames → AllZip PostedRefines more frames
 kept_all x [] [] [] posted are numbered = tt
 kept_all x [] [] (f ∷ frames) posted are numbered = absurd (cc)

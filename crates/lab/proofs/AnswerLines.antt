@@ -4,7 +4,7 @@ use Rattle.std.proofs.Common.{Some}
 use Rattle.std.proofs.Common.{None, cond, refl, ap, ap₂, subst, arith}
 use Rattle.std.specs.Prelude.{not, nat_lt}
 use Rattle.std.proofs.lemmas.Bool.{cond_both}
-use Rattle.kv_types.specs.{BatchContent}
+use Rattle.kv_types.specs.{Edits}
 use Rattle.chain_model.specs.{Message as ModelFrame, Answer, dropped_for, answers, Message}
 use Rattle.configurations.specs.{is_tail}
 use Rattle.configurations.specs.NodeLists.{leaves_out}
@@ -28,18 +28,18 @@ use Rattle.lab.specs.OutcomeLines.{adopted_lines, sent_as, sent_lines}
 use Rattle.lab.specs.Worlds.{frames_in, frames_of_step}
 
 -- a frame that is sent has the line of the model's
-line_same : (p to : ℕ) (it : Frame) (f : ModelFrame BatchContent) → frame_as to it ≡ Some f →
+line_same : (p to : ℕ) (it : Frame) (f : ModelFrame Edits) → frame_as to it ≡ Some f →
     sent_as p to it ≡ frame_line p f
 line_same p to (frame.Forward epoch from number batch) f is =
-    subst (λ (o : Option (ModelFrame BatchContent)). HasLine o) is refl
+    subst (λ (o : Option (ModelFrame Edits)). HasLine o) is refl
   where
-    HasLine : Option (ModelFrame BatchContent) → Type 0
+    HasLine : Option (ModelFrame Edits) → Type 0
     HasLine None = Unit {0}
     HasLine (Some g) = line.Forwarded p from to epoch number ≡ frame_line p g
 line_same p to (frame.Ack epoch from committed have) f is =
-    subst (λ (o : Option (ModelFrame BatchContent)). HasLine o) is refl
+    subst (λ (o : Option (ModelFrame Edits)). HasLine o) is refl
   where
-    HasLine : Option (ModelFrame BatchContent) → Type 0
+    HasLine : Option (ModelFrame Edits) → Type 0
     HasLine None = Unit {0}
     HasLine (Some g) = line.Acknowledged p from to epoch committed have ≡ frame_line p g
 line_same p to (frame.Notice epoch config) f is = absurd (cc)
@@ -56,7 +56,7 @@ line_same p to (frame.Refused request why) f is = absurd (cc)
 line_same p to (frame.Closed request number) f is = absurd (cc)
 
 -- .. and so are all of them
-pub lines_same : (n : ℕ) (sent : List Sent) (frames : List (ModelFrame BatchContent)) →
+pub lines_same : (n : ℕ) (sent : List Sent) (frames : List (ModelFrame Edits)) →
     AreFrames sent frames → sent_lines n sent ≡ frame_lines n frames
 lines_same n [] [] are = refl
 lines_same n [] (f ∷ frames) are = absurd (cc)
@@ -82,7 +82,7 @@ counts_adoption x None why = refl
 counts_adoption x (Some epoch) None = refl
 counts_adoption x (Some epoch) (Some why) = refl
 
-counts_frames : (n : ℕ) (frames : List (ModelFrame BatchContent)) →
+counts_frames : (n : ℕ) (frames : List (ModelFrame Edits)) →
     frames_of_step (frame_lines n frames) ≡ length frames
 counts_frames n [] = refl
 counts_frames n (Message.Forward to epoch from number batch ∷ frames) =
@@ -96,12 +96,12 @@ counts_replies [] = refl
 counts_replies (reply ∷ replies) = omega (arith, counts_replies replies)
 
 -- the lines of an answer, part by part
-abbrev pub answered_lines : ℕ → Option ℕ → ℕ → Answer BatchContent → List Reply → List Line
+abbrev pub answered_lines : ℕ → Option ℕ → ℕ → Answer Edits → List Reply → List Line
 answered_lines x epoch n a replies =
     dropped_lines a.dropped ++ (adopted_lines x epoch a.dropped
     ++ (frame_lines n a.frames ++ map (λ reply. line.Replied reply) replies))
 
-pub counts_answer : (x : ℕ) (epoch : Option ℕ) (n : ℕ) (a : Answer BatchContent)
+pub counts_answer : (x : ℕ) (epoch : Option ℕ) (n : ℕ) (a : Answer Edits)
     (replies : List Reply) → frames_of_step (answered_lines x epoch n a replies) ≡ length a.frames
 counts_answer x epoch n a replies =
     let traced = map (λ reply. line.Replied reply) replies in
@@ -133,7 +133,7 @@ counts_arrived told (other ∷ lines) =
 -- ---- adoptions
 
 -- the model's line of an event that is no frame or reply is that of an adoption, if there is one
-abbrev pub TurnsSo : ℕ → EventKind → Choice → Answer BatchContent → Type 0
+abbrev pub TurnsSo : ℕ → EventKind → Choice → Answer Edits → Type 0
 TurnsSo x kind choice a =
     turn_trace kind choice (answers x a) ≡ adopted_lines x (epoch_in kind) a.dropped
 
@@ -153,7 +153,7 @@ notice_turns x n epoch ids choice =
     (λ new. cond_both (leaves_out ids n.ids) (adopt x n epoch ids)
     (dropped_for n reason.BadNotice) Turns (λ takes. at_epoch_now) (λ bad. refl))
   where
-    Turns : Answer BatchContent → Type 0
+    Turns : Answer Edits → Type 0
     Turns a = TurnsSo x (Notice x epoch) choice a
 
     at_epoch_now : Turns (adopt x n epoch ids)

@@ -3,7 +3,7 @@ use Rattle.std.proofs.Common.{◌≡◌, ℕ, Bool, List, length, map, Option, S
 use Rattle.std.proofs.Common.{ap, subst, ◌∙◌}
 use Rattle.std.proofs.lemmas.Bool.{cond-true, cond-false, false≢true, le-ltb, lt-ltb}
 use Rattle.std.specs.Prelude.{nat_lt}
-use Rattle.kv_types.specs.{BatchContent, Span, place}
+use Rattle.kv_types.specs.{BatchContent, Edits, Span, place}
 use Rattle.disk.specs.declared.Fault.{Fault}
 use Rattle.disk.specs.declared.Junk.{Junk}
 use Rattle.configurations.specs.{Configurations, at_epoch}
@@ -44,7 +44,7 @@ use Rattle.lab.proofs.Tends.{tended}
 
 -- each kind has the lines of replies that the node has
 abbrev RepliesSo : EventKind → Input → Type 0
-RepliesSo kind inp = (r : request.Response BatchContent) → reply_line kind r
+RepliesSo kind inp = (r : request.Response Edits) → reply_line kind r
     ≡ map (λ reply. line.Replied reply) (replies_to_response inp r)
 
 submit_replies : (x i : ℕ) (batch : BatchContent) →
@@ -116,7 +116,7 @@ tick_replies x (Response.Opened j s) = refl
 tick_replies x (Response.Closed j s) = refl
 tick_replies x (Response.Refused j why) = refl
 
-module _ {D : Type 0} {g : Ghosts D} (cs : Configurations) (w : SystemState BatchContent) (i x : ℕ)
+module _ {D : Type 0} {g : Ghosts D} (cs : Configurations) (w : SystemState Edits) (i x : ℕ)
     (it : Fault) (struck : Bool) (heard : List Bool) (old new : NodeState D g) (did : StepOutcome)
   where
     -- the choice in a step that the node does not stop by itself
@@ -124,13 +124,13 @@ module _ {D : Type 0} {g : Ghosts D} (cs : Configurations) (w : SystemState Batc
     plain = chosen heard Answered struck Disk
 
     -- a frame in a place is delivered to its addressee
-    to_addressee : (p : ℕ) (sent : Frame) (f : ModelFrame BatchContent) (choice : Choice) →
+    to_addressee : (p : ℕ) (sent : Frame) (f : ModelFrame Edits) (choice : Choice) →
         place w.frames p ≡ Some f → frame_as x sent ≡ Some f →
         outcome w cs (arriving i (Deliver p) choice) ≡ delivered w (frame_as x sent) choice.went
     to_addressee p sent f choice there same =
-        ap (λ (o : Option (ModelFrame BatchContent)). delivered w o choice.went) (there ∙ sym same)
+        ap (λ (o : Option (ModelFrame Edits)). delivered w o choice.went) (there ∙ sym same)
 
-    deliver : (p : ℕ) (sent : Frame) (f : ModelFrame BatchContent) → place w.frames p ≡ Some f →
+    deliver : (p : ℕ) (sent : Frame) (f : ModelFrame Edits) → place w.frames p ≡ Some f →
         frame_as x sent ≡ Some f → OutcomeRefines g.is_honest g.state it struck x (w.nodes x)
         (input_of sent) old new did →
         IsOutcome cs w i x (Deliver p) it struck heard new did
@@ -283,17 +283,17 @@ module _ {D : Type 0} {g : Ghosts D} (cs : Configurations) (w : SystemState Batc
         brings.1 was))
 
 -- an event without a frame or a configuration does nothing
-pub nothing_done : (cs : Configurations) (w : SystemState BatchContent) (i : ℕ) (kind : EventKind)
+pub nothing_done : (cs : Configurations) (w : SystemState Edits) (i : ℕ) (kind : EventKind)
     (choice : Choice) → HasNoDelivery cs w.frames kind →
     outcome w cs (arriving i kind choice) ≡ nothing
 nothing_done cs w i (Deliver p) choice brings =
-    ap (λ (o : Option (ModelFrame BatchContent)). delivered w o choice.went) brings
+    ap (λ (o : Option (ModelFrame Edits)). delivered w o choice.went) brings
 nothing_done cs w i (Notice node epoch) choice brings =
     cond-false (nat_lt epoch (length cs)) _ _ (le-ltb epoch (length cs) brings)
 nothing_done cs w i kind choice brings = absurd brings
 
 -- the junk of a stop is that of its input
-pub junk_same : (cs : Configurations) (frames : List (ModelFrame BatchContent)) (i x : ℕ)
+pub junk_same : (cs : Configurations) (frames : List (ModelFrame Edits)) (i x : ℕ)
     (kind : EventKind) (node_input : NodeInput) →
     IsDeliveryOf cs frames i kind x node_input → input_junk node_input ≡ junk_of kind
 junk_same cs frames i x (Submit node batch) node_input brings = ap input_junk brings.1

@@ -4,7 +4,7 @@ use Rattle.std.proofs.Common.{true, false, ap, inl, inr, length, ◌⊎◌}
 use Rattle.std.specs.Prelude.{IsSome}
 use Rattle.std.proofs.Common.{cond, ◌==◌, refl, sym, subst, ◌∙◌, eq-eqb, eqb-true, arith}
 use Rattle.std.proofs.lemmas.Bool.{cond_both, cond-true, cond-false, false≢true}
-use Rattle.kv_types.specs.{BatchContent}
+use Rattle.kv_types.specs.{Edits}
 use Rattle.disk.specs.{State, struck_call}
 use Rattle.disk.specs.declared.Fault.{Fault}
 use Rattle.disk.specs.declared.Fault.TheVariants as fault
@@ -14,7 +14,7 @@ use Rattle.chain_core.specs.{Machine}
 use Rattle.chain_model.specs.declared.DropReason.{DropReason}
 use Rattle.node.specs.declared.Output.{Output}
 use Rattle.node.specs.declared.Stop.{Stop as Cause}
-use Rattle.node.specs.declared.Stop.TheVariants.{Disk, Damaged, Memory, NotCreated}
+use Rattle.node.specs.declared.Stop.TheVariants.{Disk, Damaged, Memory, NotCreated, OldFormat}
 use Rattle.node.specs.{HasLongFile}
 use Rattle.disk.specs.declared.Disk.{Ghosts}
 use Rattle.lab.specs.declared.input.StepOutcome.{StepOutcome}
@@ -25,10 +25,10 @@ use Rattle.events.specs.declared.EventKind.TheVariants.{Stop}
 use Rattle.lab.specs.declared.node_state.NodeState.{NodeState}
 use Rattle.lab.specs.declared.node_state.NodeState.TheVariants.{Up, Down}
 use Rattle.lab.specs.Outcomes.{HasCrashed, DiskEnds, DiskFits, DiskStays, IsExplained}
-use Rattle.lab.specs.Outcomes.{MarksFit, has_struck_in}
+use Rattle.lab.specs.Outcomes.{IncidentsFit, has_struck_in}
 use Rattle.lab.specs.Disks.{junk_of, HasGrown, IsCrashOf, IsEndOf, IsStopOf, DiskFollows}
 use Rattle.lab.specs.Disks.{StaysReliable}
-use Rattle.lab.specs.Disks.{DisksFollow, IsMarkedBy}
+use Rattle.lab.specs.Disks.{DisksFollow, HasIncidentsOf}
 use Rattle.lab.specs.Disks.{before_crash, has_reached, junk_at_end, past_of_step}
 use Rattle.lab.specs.Events.{reported_cause, line_cause}
 use Rattle.lab.specs.SimNodes.{Choice, StateRefines, IsDown, disk_in}
@@ -76,6 +76,7 @@ module _ {D : Type 0} (g : Ghosts D) where
   at_end junk struck Damaged old new left may = omega (arith, left.others (λ e. cc))
   at_end junk struck Memory old new left may = omega (arith, left.others (λ e. cc))
   at_end junk struck NotCreated old new left may = omega (arith, left.others (λ e. cc))
+  at_end junk struck OldFormat old new left may = omega (arith, left.others (λ e. cc))
 
 module _ {D : Type 0} {g : Ghosts D} where
   pub at_most_one : (junk : Option Junk) (it : Fault) (struck : Bool)
@@ -187,7 +188,7 @@ module _ {D : Type 0} {g : Ghosts D} where
     reached_then (Up node) it struck down is = absurd down
     reached_then (Down disk) it struck down is = is
 
-    module _ (event : EventContent) (choice : Choice) (o : Outcome BatchContent) (x : ℕ)
+    module _ (event : EventContent) (choice : Choice) (o : Outcome Edits) (x : ℕ)
         (n : Machine) where
       -- the fault struck, then, as the count of calls says
       abbrev pub StruckSo : Type 0
@@ -216,24 +217,22 @@ module _ {D : Type 0} {g : Ghosts D} where
       rests_at output is same (inr dropped) =
           inr (subst (λ (d : Option DropReason). IsSome d) same dropped)
 
-      -- the marks of a step are those of its event
-      marked_as : {A B : Type 0} → (A → B) → (ends stops : Bool) → stops ≡ ends →
-          IsMarkedBy g.state g.past g.marks A (junk_of event.kind) event.fault choice.struck ends
-          old
-          (disk_in new) →
-          IsMarkedBy g.state g.past g.marks B
+      -- the incidents of a step are those of its event
+      occurred_as : {A B : Type 0} → (A → B) → (ends stops : Bool) → stops ≡ ends →
+          HasIncidentsOf g.state g.past g.incidents A (junk_of event.kind) event.fault
+          choice.struck ends old (disk_in new) →
+          HasIncidentsOf g.state g.past g.incidents B
           (junk_of event.kind) event.fault choice.struck stops old
           (disk_in new)
-      marked_as {A} {B} to ends stops is m =
-          subst (λ (b : Bool). IsMarkedBy g.state g.past g.marks B (junk_of event.kind) event.fault
-          choice.struck b old (disk_in new)) (sym is) (by m)
+      occurred_as {A} {B} to ends stops is m =
+          subst (λ (b : Bool). HasIncidentsOf g.state g.past g.incidents B (junk_of event.kind)
+          event.fault choice.struck b old (disk_in new)) (sym is) (by m)
         where
-          by : IsMarkedBy g.state g.past g.marks A
+          by : HasIncidentsOf g.state g.past g.incidents A
               (junk_of event.kind) event.fault choice.struck ends
               old (disk_in new) →
-              IsMarkedBy g.state g.past g.marks B (junk_of event.kind) event.fault choice.struck
-              ends
-              old (disk_in new)
+              HasIncidentsOf g.state g.past g.incidents B (junk_of event.kind) event.fault
+              choice.struck ends old (disk_in new)
           by (inl rests) = inl (to rests.0, rests.1, rests.2)
           by (inr works) = inr works
 
@@ -253,38 +252,39 @@ module _ {D : Type 0} {g : Ghosts D} where
           StopsSo event choice did o →
           DiskFits g.state g.failures g.past
           (junk_of event.kind) event.fault choice.struck did old new →
-          MarksFit g.state g.past g.marks
+          IncidentsFit g.state g.past g.incidents
           (junk_of event.kind) event.fault choice.struck did old new →
           (StaysReliable g old → IsExplained (g.state old) choice.struck did) → HasGrown g.past old
           (disk_in new) →
           DiskFollows g event choice o n old (disk_in new)
-      follows (done.Answered output) is struck ends left marked why grown = record {
+      follows (done.Answered output) is struck ends left occurred why grown = record {
         grows = grown;
-        marked = marked_as (λ may. rests_at output is ends.1 may) false o.stopped ends.0 marked;
+        occurred = occurred_as (λ may. rests_at output is ends.1 may) false o.stopped ends.0
+            occurred;
         fault = answered_so struck ends.0 left;
         stops = λ stops. absurd (false≢true (sym ends.0 ∙ stops));
         count = λ _. left.count;
         rests = λ _. λ off. left.same (rests_so new x n is off);
       }
-      follows (done.Started epoch count committed) is struck ends left marked why grown = record {
+      follows (done.Started epoch count committed) is struck ends left occurred why grown = record {
         grows = grown;
-        marked = marked_as (λ none. absurd none) false o.stopped ends marked;
+        occurred = occurred_as (λ none. absurd none) false o.stopped ends occurred;
         fault = answered_so struck ends left;
         stops = λ stops. absurd (false≢true (sym ends ∙ stops));
         count = λ _. left.count;
         rests = λ _. λ off. left.same (rests_so new x n is off);
       }
-      follows (done.Tended did) is struck ends left marked why grown = record {
+      follows (done.Tended did) is struck ends left occurred why grown = record {
         grows = grown;
-        marked = marked_as (λ none. absurd none) false o.stopped ends marked;
+        occurred = occurred_as (λ none. absurd none) false o.stopped ends occurred;
         fault = answered_so struck ends left;
         stops = λ stops. absurd (false≢true (sym ends ∙ stops));
         count = λ _. left.count;
         rests = λ _. λ off. left.same (rests_so new x n is off);
       }
-      follows (done.Stopped traced) is struck ends left marked why grown = record {
+      follows (done.Stopped traced) is struck ends left occurred why grown = record {
         grows = grown;
-        marked = marked_as (λ none. absurd none) true o.stopped ends.0 marked;
+        occurred = occurred_as (λ none. absurd none) true o.stopped ends.0 occurred;
         fault = subst (λ (b : Bool). ReachedIn b) (sym ends.0)
             (reached_then new event.fault choice.struck
             (is_down new (junk_of event.kind) event.fault choice.struck traced left) struck);
@@ -310,7 +310,7 @@ disk_elsewhere disks x own y other = cond-false (y == x) own (disks y) other
 
 module _ {D : Type 0} {g : Ghosts D} where
   -- what the node that an event was for left is what the event leaves of all disks
-  pub all_follow : (event : EventContent) (choice : Choice) (o : Outcome BatchContent) (x : ℕ)
+  pub all_follow : (event : EventContent) (choice : Choice) (o : Outcome Edits) (x : ℕ)
       (n : Machine)
       (disks : ℕ → D) (own : D) → o.acted_on ≡ Some (x, n) →
       DiskFollows g event choice o n (disks x) own →
@@ -331,7 +331,7 @@ module _ {D : Type 0} {g : Ghosts D} where
   }
 
   -- an event that was for none leaves them
-  pub none_follow : (event : EventContent) (choice : Choice) (o : Outcome BatchContent)
+  pub none_follow : (event : EventContent) (choice : Choice) (o : Outcome Edits)
       (disks : ℕ → D) →
       o.acted_on ≡ None → DisksFollow g event choice o disks disks
   none_follow event choice o disks none = record {

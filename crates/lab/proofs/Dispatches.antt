@@ -6,7 +6,7 @@ use Rattle.disk.specs.declared.Fault.TheVariants as fault
 use Rattle.disk.specs.declared.disk.Disk.{Ghosts}
 use Rattle.disk.specs.{IsArmed, KeepsDisk, RisesByOne, State}
 use Rattle.node.specs.declared.Stop.{Stop as Cause}
-use Rattle.node.specs.declared.Stop.TheVariants.{Disk, Damaged, Memory, NotCreated}
+use Rattle.node.specs.declared.Stop.TheVariants.{Disk, Damaged, Memory, NotCreated, OldFormat}
 use Rattle.lab.specs.declared.input.StepOutcome.{StepOutcome}
 use Rattle.lab.specs.declared.input.StepOutcome.TheVariants as done
 use Rattle.lab.specs.Dispatches.{CountsFailures, StopsMachine}
@@ -34,6 +34,7 @@ module _ (before now : ℕ) where
   count_of Damaged rises same = same (λ is. cc)
   count_of Memory rises same = same (λ is. cc)
   count_of NotCreated rises same = same (λ is. cc)
+  count_of OldFormat rises same = same (λ is. cc)
 
   count_of_none : (stop : Cause) → (stop ≡ Disk → RisesByOne before now) →
       ((stop ≡ Disk → ⊥) → now ≡ before) → CountsFailures None (done.Stopped None) before now
@@ -41,6 +42,7 @@ module _ (before now : ℕ) where
   count_of_none Damaged rises same = inr (same (λ is. cc))
   count_of_none Memory rises same = inr (same (λ is. cc))
   count_of_none NotCreated rises same = inr (same (λ is. cc))
+  count_of_none OldFormat rises same = inr (same (λ is. cc))
 
   -- the disk failed once more exactly where the node stopped for it, which it tells or not
   counted : (it : Fault) (struck : Bool) (stop : Cause) → (stop ≡ Disk → RisesByOne before now) →

@@ -27,14 +27,14 @@ use Rattle.lab.specs.Disks.{HasGrown, junk_at_end}
 use Rattle.lab.specs.Events.{line_cause}
 use Rattle.lab.specs.Dispatches.{CountsFailures, HasDispatched, IsOutcomeOf, StandsByOutcome}
 use Rattle.lab.specs.Outcomes.{DiskFits, DropsResting, HasCrashed, IsAnswerAtRest}
-use Rattle.lab.specs.Outcomes.{IsDrop, IsIgnored, MarksFit}
+use Rattle.lab.specs.Outcomes.{IncidentsFit, IsDrop, IsIgnored}
 use Rattle.lab.specs.Outcomes.{OutcomeRefines, Rests, RestsOn, StateFollows}
 use Rattle.lab.specs.Outcomes.{StopsByItself, TendsNot, has_struck_in, input_junk}
 use Rattle.lab.specs.SimNodes.{IsDown, StateIsReady, StateIsSound, StateRefines, disk_in}
 use Rattle.lab.specs.Stops.{IsDownAfter, StopsWithDisk}
 use Rattle.lab.proofs.Dispatches.{counts_so, tells_none, tells_own}
-use Rattle.lab.proofs.Faults.{IsSpent, disk_fits, explained, grown_end, idle_in, marked_end, spent}
-use Rattle.lab.proofs.Faults.{stopped_so, struck_at}
+use Rattle.lab.proofs.Faults.{IsSpent, disk_fits, explained, grown_end, idle_in, occurred_end}
+use Rattle.lab.proofs.Faults.{spent, stopped_so, struck_at}
 
 -- the box, if it held this
 abbrev pub holding : {A : Type 0} → Box A → A → Box A
@@ -119,7 +119,7 @@ answered_only g limits it node_input old output ready outcome may ignored refine
   explains = λ honest starts cause stops. absurd cc;
   only = λ sound reliable stops. absurd cc;
   grows = λ x n r. ([], refl);
-  marked = λ honest. inl (may, refl, refl);
+  occurred = λ honest. inl (may, refl, refl);
   forgets = λ honest unarmed. unarmed ignored;
 }
 
@@ -203,17 +203,17 @@ module _ {D : Type 0} (g : Ghosts D) (it : Fault) (was new : NodeState D g) (did
     pub honest_left : g.is_honest (disk_in was) → g.is_honest left
     honest_left honest = (spent_so honest).honest
 
-    told : (b : Bool) → ((b ≡ true) ↔ HasStruck g.marks g.past left) →
+    told : (b : Bool) → ((b ≡ true) ↔ HasStruck g.incidents g.past left) →
         did ≡ done.Stopped (line_cause it b stop)
     told b strikes = subst (λ (t : Bool). did ≡ done.Stopped (line_cause it t stop))
         (same_test stops.struck b stops.strikes strikes) stops.told
 
-    down : (b : Bool) → ((b ≡ true) ↔ HasStruck g.marks g.past left) →
+    down : (b : Bool) → ((b ≡ true) ↔ HasStruck g.incidents g.past left) →
         IsDownAfter g left (junk_at_end it b) new
     down b strikes = subst (λ (t : Bool). IsDownAfter g left (junk_at_end it t) new)
         (same_test stops.struck b stops.strikes strikes) stops.down
 
-    crashes : (b : Bool) → ((b ≡ true) ↔ HasStruck g.marks g.past left) → g.is_honest left →
+    crashes : (b : Bool) → ((b ≡ true) ↔ HasStruck g.incidents g.past left) → g.is_honest left →
         HasCrashed g.state g.failures g.past (junk_at_end it b) left new
         × IsLastLeft (g.past left) (g.state left)
     crashes b strikes honest = ((down b strikes).crashes honest, stops.last honest)
@@ -261,10 +261,11 @@ module _ {D : Type 0} (g : Ghosts D) (it : Fault) (was new : NodeState D g) (did
               (spent_so (honest_of g was is)) to from told crashes reliable (long is);
           grows = λ x n r. grown_end g it (disk_in was) left stop new did has_failed cause
               (spent_so (honest_in g was x n r)) to from told crashes (grows x n r);
-          marked = λ honest. subst (λ (j : Option Junk).
-              MarksFit g.state g.past g.marks j it struck did (disk_in was) new) (sym unstopped)
-              (marked_end g it (disk_in was) left stop new did has_failed cause (spent_so honest)
+          occurred = λ honest. subst (λ (j : Option Junk).
+              IncidentsFit g.state g.past g.incidents j it struck did (disk_in was) new)
+              (sym unstopped)
+              (occurred_end g it (disk_in was) left stop new did has_failed cause (spent_so honest)
               to from told crashes armed has_failed cause IsKept arms keeps honest
-              (λ b strikes. (down b strikes).marked));
+              (λ b strikes. (down b strikes).occurred));
           forgets = λ honest _. stops.down.forgets (honest_left honest);
         }

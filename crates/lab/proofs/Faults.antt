@@ -8,25 +8,25 @@ use Rattle.std.proofs.lemmas.Bool.{false≢true}
 use Rattle.disk.specs.declared.Fault.{Fault}
 use Rattle.disk.specs.declared.Fault.TheVariants as fault
 use Rattle.disk.specs.declared.Junk.{Junk}
-use Rattle.disk.specs.declared.Mark.{Mark}
-use Rattle.disk.specs.declared.Mark.TheVariants.{Armed, Crashed}
+use Rattle.disk.specs.declared.Incident.{Incident}
+use Rattle.disk.specs.declared.Incident.TheVariants.{Armed, Crashed}
 use Rattle.disk.specs.declared.disk.Disk.{Ghosts}
 use Rattle.disk.specs.{HasStruck, HasStruckBy, IsArmed, IsLastLeft, IsSame, KeepsDisk, RisesByOne}
 use Rattle.disk.specs.{AllLeave, AlwaysLeaves, Contents, IsEnvironmental, State}
 use Rattle.disk.specs.{AllLeave as later}
-use Rattle.disk.specs.{Marks, armed_after, fault_of, struck_call}
+use Rattle.disk.specs.{Incidents, armed_after, fault_of, struck_call}
 use Rattle.node.specs.declared.Stop.{Stop as Cause}
-use Rattle.node.specs.declared.Stop.TheVariants.{Disk, Damaged, Memory, NotCreated}
+use Rattle.node.specs.declared.Stop.TheVariants.{Disk, Damaged, Memory, NotCreated, OldFormat}
 use Rattle.lab.specs.declared.input.StepOutcome.{StepOutcome}
 use Rattle.lab.specs.declared.input.StepOutcome.TheVariants as done
 use Rattle.lab.specs.declared.node_state.NodeState.{NodeState}
 use Rattle.lab.specs.declared.node_state.NodeState.TheVariants.{Up, Down}
 use Rattle.node.specs.{HasLongFile, disk_of}
-use Rattle.lab.specs.Disks.{HasGrown, IsMarkedSo, before_crash, has_reached, junk_at_end}
-use Rattle.lab.specs.Disks.{marks_of_step}
+use Rattle.lab.specs.Disks.{HasGrown, HasIncidents, before_crash, has_reached, junk_at_end}
+use Rattle.lab.specs.Disks.{incidents_of_step}
 use Rattle.lab.specs.Events.{line_cause}
 use Rattle.lab.specs.Outcomes.{DiskEnds, DiskFits, HasCrashed, IsExplained, StopsByItself}
-use Rattle.lab.specs.Outcomes.{MarksFit, has_struck_in}
+use Rattle.lab.specs.Outcomes.{IncidentsFit, has_struck_in}
 use Rattle.lab.specs.SimNodes.{IsDown, disk_in}
 
 -- ---- the call that a fault strikes
@@ -116,7 +116,7 @@ crash_grows g junk old left (Down disk) crashed grown =
 pub record IsSpent {D : Type 0} (g : Ghosts D) (struck : Bool) (has_failed cause : Type 0)
     (old left : D) : Type 0 where
   pub honest : g.is_honest left
-  pub strikes : (struck ≡ true) ↔ HasStruck g.marks g.past left
+  pub strikes : (struck ≡ true) ↔ HasStruck g.incidents g.past left
   pub spared : (has_failed → ⊥) → struck ≡ false
   pub failed : has_failed → RisesByOne (g.failures old) (g.failures left)
   pub count : (has_failed → ⊥) → g.failures left ≡ g.failures old
@@ -143,16 +143,16 @@ module _ {D : Type 0} (g : Ghosts D) (it : Fault) (old : D) where
         (λ has. false≢true (sym missed ∙ strikes.1 has)) fails);
   }
     where
-      at : fault_of (g.marks armed) ≡ armed_after (length (g.past old)) (struck_call it)
-      at = ap fault_of (arms.marks honest)
+      at : fault_of (g.incidents armed) ≡ armed_after (length (g.past old)) (struck_call it)
+      at = ap fault_of (arms.incidents honest)
 
-      strikes : (struck_at left ≡ true) ↔ HasStruck g.marks g.past left
+      strikes : (struck_at left ≡ true) ↔ HasStruck g.incidents g.past left
       strikes = subst (λ (o : Option ℕ). (struck_at left ≡ true)
           ↔ HasStruckBy o (length (g.past left)))
           (sym (ap fault_of keeps.fault ∙ at))
           (reached_is (struck_call it) (length (g.past old)) (length (g.past left)))
 
-      fresh : HasStruck g.marks g.past armed → ⊥
+      fresh : HasStruck g.incidents g.past armed → ⊥
       fresh has = not_yet it (length (g.past old)) (length (g.past old)) (omega arith)
           (subst (λ (n : ℕ). HasStruckBy (armed_after (length (g.past old)) (struck_call it)) n)
           (ap length arms.past)
@@ -189,17 +189,17 @@ module _ {D : Type 0} (g : Ghosts D) (it : Fault) (old : D) where
   before_is junk left (Down disk) crashed =
       ap (λ (l : List State). before_crash l) (sym crashed.moment.2)
 
-  -- a step that did not stop the node leaves the marks of its fault
-  pub marked_so : (struck : Bool) (armed left new : D) (F C : Type 0)
+  -- a step that did not stop the node leaves the incidents of its fault
+  pub occurred_so : (struck : Bool) (armed left new : D) (F C : Type 0)
       (IsKept : State → State → Type 0) → IsArmed g it old armed →
       KeepsDisk g armed left F C IsKept → IsArmed g fault.None left new → g.is_honest old →
-      IsMarkedSo g.state g.past g.marks (marks_of_step it struck false (length (g.past old))
-      (length (g.past new)) (g.marks old)) new
-  marked_so struck armed left new F C IsKept arms keeps ends honest =
+      HasIncidents g.state g.past g.incidents (incidents_of_step it struck false
+      (length (g.past old)) (length (g.past new)) (g.incidents old)) new
+  occurred_so struck armed left new F C IsKept arms keeps ends honest =
       let is = keeps.honest.1 (arms.honest.1 honest) in
       record {
-        marked = ends.marks is ∙ ap₂ (λ (n : ℕ) (l : Marks). (n, Armed None) ∷ l)
-            (ap length (sym ends.past)) (keeps.fault ∙ arms.marks honest);
+        occurred = ends.incidents is ∙ ap₂ (λ (n : ℕ) (l : Incidents). (n, Armed None) ∷ l)
+            (ap length (sym ends.past)) (keeps.fault ∙ arms.incidents honest);
         last = ends.last is;
       }
 
@@ -254,9 +254,9 @@ module _ {D : Type 0} (g : Ghosts D) (it : Fault) (old : D) where
       (has_failed cause : Type 0)
       (was : IsSpent g (struck_at left) has_failed cause old left) (to : has_failed → stop ≡ Disk)
       (from : stop ≡ Disk → has_failed)
-      (told : (struck : Bool) → ((struck ≡ true) ↔ HasStruck g.marks g.past left) →
+      (told : (struck : Bool) → ((struck ≡ true) ↔ HasStruck g.incidents g.past left) →
       did ≡ done.Stopped (line_cause it struck stop))
-      (crashes : (struck : Bool) → ((struck ≡ true) ↔ HasStruck g.marks g.past left) →
+      (crashes : (struck : Bool) → ((struck ≡ true) ↔ HasStruck g.incidents g.past left) →
       g.is_honest left →
       HasCrashed g.state g.failures g.past (junk_at_end it struck) left new
       × IsLastLeft (g.past left) (g.state left))
@@ -281,6 +281,7 @@ module _ {D : Type 0} (g : Ghosts D) (it : Fault) (old : D) where
           is_disk Damaged none = absurd (none (λ e. cc))
           is_disk Memory none = absurd (none (λ e. cc))
           is_disk NotCreated none = absurd (none (λ e. cc))
+          is_disk OldFormat none = absurd (none (λ e. cc))
 
       says : did ≡ done.Stopped (line_cause it struck stop)
       says = subst (λ (b : Bool). did ≡ done.Stopped (line_cause it b stop)) same
@@ -307,21 +308,22 @@ module _ {D : Type 0} (g : Ghosts D) (it : Fault) (old : D) where
           (crashes (struck_at left) was.strikes was.honest).1
           (λ is. was.failed (from is)) (λ other. was.count (λ fails. other (to fails))))))
 
-      -- its disk has the marks of that
-      pub marked_end : (armed : D) (F C : Type 0) (IsKept : State → State → Type 0) →
+      -- its disk has the incidents of that
+      pub occurred_end : (armed : D) (F C : Type 0) (IsKept : State → State → Type 0) →
           IsArmed g it old armed → KeepsDisk g armed left F C IsKept → g.is_honest old →
-          ((b : Bool) → ((b ≡ true) ↔ HasStruck g.marks g.past left) → g.is_honest left →
-          IsMarkedSo g.state g.past g.marks
-          ((length (g.past left), Crashed (junk_at_end it b)) ∷ g.marks left) (disk_in new)) →
-          MarksFit g.state g.past g.marks None it struck did old new
-      marked_end armed F C IsKept arms keeps honest stamped =
+          ((b : Bool) → ((b ≡ true) ↔ HasStruck g.incidents g.past left) → g.is_honest left →
+          HasIncidents g.state g.past g.incidents
+          ((length (g.past left), Crashed (junk_at_end it b)) ∷ g.incidents left) (disk_in new)) →
+          IncidentsFit g.state g.past g.incidents None it struck did old new
+      occurred_end armed F C IsKept arms keeps honest stamped =
           let so = stamped (struck_at left) was.strikes was.honest in
-          subst (λ (d : StepOutcome). MarksFit g.state g.past g.marks None it struck d old new)
+          subst (λ (d : StepOutcome).
+          IncidentsFit g.state g.past g.incidents None it struck d old new)
           (sym says) (inr (record {
-            marked = so.marked ∙ ap₂ (λ (m : ℕ × Mark) (l : Marks). m ∷ l)
+            occurred = so.occurred ∙ ap₂ (λ (m : ℕ × Incident) (l : Incidents). m ∷ l)
                 (ap₂ (λ (n : ℕ) (b : Bool). (n, Crashed (junk_at_end it b)))
                 (ap length (before_is (junk_at_end it (struck_at left)) left new crashed)) same)
-                (keeps.fault ∙ arms.marks honest);
+                (keeps.fault ∙ arms.incidents honest);
             last = so.last;
           }))
 

@@ -5,7 +5,7 @@ use Rattle.std.proofs.Common.{Result, Ok, Err, inl, inr, refl, sym, ap, subst}
 use Rattle.std.proofs.lemmas.List.Elements.{All-head}
 use Rattle.std.specs.Prelude.{All, IfOk, IsSome}
 use Rattle.std.specs.List.{AllZip}
-use Rattle.kv_types.specs.{BatchContent, place}
+use Rattle.kv_types.specs.{Edits, place}
 use Rattle.configurations.specs.{Configurations}
 use Rattle.chain_model.specs.{Message as ModelFrame}
 use Rattle.link_messages.specs.declared.Frame.{Frame}
@@ -151,12 +151,12 @@ uncarried_brings h now cs posted i kind it none is = record {
 -- ---- by a faithful carrier, where the posted frames are those of a run
 
 -- bytes of these posted frames and of this event, of which so much arrived, are those of a run
-abbrev ArriveInRun : List (ModelFrame BatchContent) → List Posted → ℕ → EventKind
+abbrev ArriveInRun : List (ModelFrame Edits) → List Posted → ℕ → EventKind
     → Option (List ℕ) → Type 0
 ArriveInRun frames posted i kind got = OneSpelling × AllZip PostedRefines posted frames
     × All IsUnaltered (frame_sent posted i kind (λ bytes. got))
 
-module _ (cs : Configurations) (frames : List (ModelFrame BatchContent)) (i : ℕ) where
+module _ (cs : Configurations) (frames : List (ModelFrame Edits)) (i : ℕ) where
   -- a request or a frame that was sent is found on its way, or is lost
   sent_found : (kind : EventKind) (node : ℕ) (sent : NodeInput) (bytes : List ℕ)
       (got : Option (List ℕ)) → MayBeLost frames kind → IsDeliveryOf cs frames i kind node sent →
@@ -185,7 +185,7 @@ module _ (cs : Configurations) (frames : List (ModelFrame BatchContent)) (i : �
   posted_found one posted p each got (Some x) has all it is =
       let kept = some_kept posted frames p x each has in
       sent_found (Deliver p) x.to (input_of kept.kept.it) x.bytes.items got
-      (subst (λ (found : Option (ModelFrame BatchContent)). IsSome found) (sym kept.there) refl)
+      (subst (λ (found : Option (ModelFrame Edits)). IsSome found) (sym kept.there) refl)
       (record {
         frame = kept.frame;
         there = kept.there;
@@ -207,7 +207,7 @@ module _ (cs : Configurations) (frames : List (ModelFrame BatchContent)) (i : �
 -- what is brought can be delivered in the run
 pub found_of : (cs : Configurations) (posted : List Posted) (i : ℕ) (kind : EventKind)
     (got : Option (List ℕ)) (it : Delivery) → IsBrought cs posted i kind got it →
-    (frames : List (ModelFrame BatchContent)) →
+    (frames : List (ModelFrame Edits)) →
     (IsCarriedEvent kind → ArriveInRun frames posted i kind got) → IsDeliverable cs frames i kind it
 found_of cs posted i (Submit node batch) got it is frames run =
     request_found cs frames i (Submit node batch) node (frame.Submit i batch) got tt (refl, refl)

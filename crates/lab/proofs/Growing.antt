@@ -7,7 +7,7 @@ use Rattle.disk.specs.declared.disk.Disk.{Ghosts}
 use Rattle.std.specs.List.{AllZip}
 use Rattle.std.proofs.lemmas.Slice.Zip.{AllZip-long}
 use Rattle.kv_types.specs.declared.Limits.{Limits}
-use Rattle.kv_types.specs.{BatchContent}
+use Rattle.kv_types.specs.{Edits}
 use Rattle.configurations.specs.{Configurations, at_epoch}
 use Rattle.chain_model.specs.{SystemState, run, reached, first_state}
 use Rattle.chain_model.specs.{state_after, outcome}
@@ -26,7 +26,7 @@ use Rattle.lab.specs.Worlds.{frames_of_step}
 -- one event more at the end
 module _ (cs : Configurations) (e : EventContent) (ch : Choice) where
   pub run-push : (i k : ℕ) (es : List EventContent) (chs : List Choice)
-      (w : SystemState BatchContent) →
+      (w : SystemState Edits) →
       length chs ≡ length es → k ≡ i + length es →
       run cs (modelled_from i (es ++ e ∷ []) (chs ++ ch ∷ [])) w ≡ state_after cs
       (run cs (modelled_from i es chs) w) (modelled k e.kind ch)
@@ -38,7 +38,7 @@ module _ (cs : Configurations) (e : EventContent) (ch : Choice) where
       (state_after cs w (modelled i f.kind c)) (omega arith) (omega arith)
 
   pub lines_from-push : (i k : ℕ) (es : List EventContent) (chs : List Choice)
-      (w : SystemState BatchContent) →
+      (w : SystemState Edits) →
       length chs ≡ length es → k ≡ i + length es →
       let u = run cs (modelled_from i es chs) w in
       lines_from cs i (es ++ e ∷ []) (chs ++ ch ∷ []) w ≡ lines_from cs i es chs w ++ reported_lines
@@ -55,7 +55,7 @@ module _ (cs : Configurations) (e : EventContent) (ch : Choice) where
       (omega arith))
 
   pub fit-push : (i k : ℕ) (es : List EventContent) (chs : List Choice)
-      (w : SystemState BatchContent) →
+      (w : SystemState Edits) →
       length chs ≡ length es → k ≡ i + length es → AllFit cs i es chs w →
       let u = run cs (modelled_from i es chs) w in
       ChoiceFits u.frames e ch (outcome u cs (modelled k e.kind ch)) →
@@ -76,7 +76,7 @@ module _ (cs : Configurations) (e : EventContent) (ch : Choice) where
 module _ {D : Type 0} {g : Ghosts D} where
   module _ (cs : Configurations) (e : EventContent) (ch : Choice) where
     pub follow-push : (i k : ℕ) (es : List EventContent) (chs : List Choice)
-        (w : SystemState BatchContent)
+        (w : SystemState Edits)
         (old disks new : ℕ → D) → length chs ≡ length es → k ≡ i + length es →
         AllFollow g cs i es chs w old disks →
         let u = run cs (modelled_from i es chs) w in
@@ -101,7 +101,7 @@ module _ {D : Type 0} {g : Ghosts D} where
     )
 
     pub nodes-push : (limits : Limits) (i k : ℕ) (es : List EventContent) (chs : List Choice)
-        (w : SystemState BatchContent) (old sims new : List (SimNode D g)) →
+        (w : SystemState Edits) (old sims new : List (SimNode D g)) →
         length chs ≡ length es → k ≡ i + length es →
         AllNodesFollow cs limits i es chs w old sims →
         let u = run cs (modelled_from i es chs) w in
@@ -134,7 +134,7 @@ module _ {D : Type 0} {g : Ghosts D} where
   -- nodes that follow from some with these limits have them
   pub follow_limited : (cs : Configurations) (limits : Limits) (i : ℕ) (es : List EventContent)
       (chs : List Choice)
-      (w : SystemState BatchContent) (old new : List (SimNode D g)) →
+      (w : SystemState Edits) (old new : List (SimNode D g)) →
       AllNodesFollow cs limits i es chs w old new → HaveLimits old limits → HaveLimits new limits
   follow_limited cs limits i [] chs w old new all has =
       subst (λ (l : List (SimNode D g)). HaveLimits l limits) (sym all) has
@@ -146,7 +146,7 @@ module _ {D : Type 0} {g : Ghosts D} where
 
 -- each event has its lines
 pub length-lines_from : (cs : Configurations) (i : ℕ) (es : List EventContent) (chs : List Choice)
-    (w : SystemState BatchContent) → length chs ≡ length es →
+    (w : SystemState Edits) → length chs ≡ length es →
     length (lines_from cs i es chs w) ≡ length es
 length-lines_from cs i [] chs w same = refl
 length-lines_from cs i (e ∷ es) [] w same = absurd (omega arith)
@@ -162,7 +162,7 @@ frames_in_steps-push (step ∷ steps) lines = omega (arith, frames_in_steps-push
 
 module _ {D : Type 0} {g : Ghosts D} where
   -- what the event in place i makes of a world, and its lines
-  pub record Next (cs : Configurations) (w : SystemState BatchContent) (old : ℕ → D) (i : ℕ)
+  pub record Next (cs : Configurations) (w : SystemState Edits) (old : ℕ → D) (i : ℕ)
       (event : EventContent) (choice : Choice) (sims : List (SimNode D g)) (posted : List Posted)
       (lines : List Line)
       : Type 0 where
@@ -195,7 +195,7 @@ module _ {D : Type 0} {g : Ghosts D} (past : WorldRun) (sims : List (SimNode D g
     choices = past.choices
 
     -- the world of the model so far
-    abbrev pub so_far : SystemState BatchContent
+    abbrev pub so_far : SystemState Edits
     so_far = reached cs (modelled_from 1 events choices)
 
     -- there are as many steps as events
@@ -229,7 +229,7 @@ module _ {D : Type 0} {g : Ghosts D} (past : WorldRun) (sims : List (SimNode D g
                 ∙ sym (lines_from-push cs event choice 1 i events choices (first_state cs)
                 made.trace.one_each place);
           };
-          frames = subst (λ (v : SystemState BatchContent). AllZip PostedRefines more v.frames)
+          frames = subst (λ (v : SystemState Edits). AllZip PostedRefines more v.frames)
               (sym here)
               next.frames;
           sent = omega (
@@ -248,14 +248,14 @@ module _ {D : Type 0} {g : Ghosts D} (past : WorldRun) (sims : List (SimNode D g
           after = record {
             first = made.after.first;
             begun = made.after.begun;
-            marked = made.after.marked;
+            occurred = made.after.occurred;
             follow = follow-push cs event choice 1 i events choices (first_state cs)
                 made.after.first made.disks next.disks made.trace.one_each place made.after.follow
                 next.follow;
           };
           few = λ x. omega (arith, next.few x, at, length-append events (event ∷ []));
           unarmed = next.unarmed;
-          each = subst (λ (v : SystemState BatchContent). All (SimNodeRefines v.nodes next.disks)
+          each = subst (λ (v : SystemState Edits). All (SimNodeRefines v.nodes next.disks)
               now)
               (sym here)
               next.each;

@@ -23,9 +23,10 @@ mod Transmissions
 mod TraceLines
 mod Submits
 mod Histories
+mod Acknowledged
 mod Freshness
 mod Reports
-mod FaultMarks
+mod FaultIncidents
 mod OutcomeLines
 mod SentLines
 mod LinesSoFarLemmas

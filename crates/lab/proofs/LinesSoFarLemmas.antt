@@ -28,9 +28,9 @@ on_ok (Ok x) p = p
 on_ok (Err e) p = tt
 
 -- one more of one kind is none of the other
-pushed_apart : (marks : List Bool) → marks ++ false ∷ [] ≡ marks ++ true ∷ [] → ⊥
+pushed_apart : (noted : List Bool) → noted ++ false ∷ [] ≡ noted ++ true ∷ [] → ⊥
 pushed_apart [] is = absurd cc
-pushed_apart (b ∷ marks) is = pushed_apart marks (ap (λ (l : List Bool). drop 1 l) is)
+pushed_apart (b ∷ noted) is = pushed_apart noted (ap (λ (l : List Bool). drop 1 l) is)
 
 module _ {D C : Type 0} {g : Ghosts D} where
   -- none, where it names a node that the world does not have
@@ -81,7 +81,7 @@ module _ {D C : Type 0} {g : Ghosts D} where
             (same ∙ ap (λ (w : World D C g). w.steps.items) begins.others);
         each = λ _. refl;
         pairs = refl;
-        lost = keeps.marked ∙ (ap (λ (l : List Bool). l ++ lost ∷ [])
+        lost = keeps.noted ∙ (ap (λ (l : List Bool). l ++ lost ∷ [])
             (same_lost ∙ ap (λ (w : World D C g). w.lost.items) begins.others)
             ∙ ap (λ (b : Bool). lost_so_far old ++ b ∷ []) shows.loss);
         shown = omega (arith, sent_now, sent_then, shows.shown);
@@ -103,7 +103,7 @@ module _ {D C : Type 0} {g : Ghosts D} where
       lost_so_far mid ≡ lost_so_far begun → OnOk r (LosesCarried loses event old new)
   loses_none r loses event {old = old} mid new lines begins keeps same_lost =
       on_ok_weaker r (λ kept is. absurd (pushed_apart (lost_so_far old)
-      (sym (kept.marked ∙ ap (λ (l : List Bool). l ++ false ∷ [])
+      (sym (kept.noted ∙ ap (λ (l : List Bool). l ++ false ∷ [])
       (same_lost ∙ ap (λ (w : World D C g). w.lost.items) begins.others)) ∙ is))) keeps
 
   pub loses_nothing : (loses : Type 0) (world : World D C g) (event : EventContent) →
@@ -161,6 +161,6 @@ module _ {D C : Type 0} {g : Ghosts D} where
           )
         ],
       );
-      lost = p.marked ∙ lost_then;
+      lost = p.noted ∙ lost_then;
       configs = ap (λ (w : World D C g). w.configs) p.others ∙ configs_then;
     }

@@ -154,12 +154,12 @@ module _ {D : Type 0} {g : Ghosts D} where
         after = record {
           first = disks;
           begun = none;
-          marked = each_of (IsNewDisk g) config d all.0.marked sims (λ s is. is.marked) all;
+          occurred = each_of (IsNewDisk g) config d all.0.occurred sims (λ s is. is.occurred) all;
           follow = refl;
         };
         few = λ x. omega (arith, none x);
-        unarmed = each_of (IsUnarmed g) config d (ap fault_of all.0.marked.marked) sims
-            (λ s is. ap fault_of is.marked.marked) all;
+        unarmed = each_of (IsUnarmed g) config d (ap fault_of all.0.occurred.occurred) sims
+            (λ s is. ap fault_of is.occurred.occurred) all;
         each = All-from_recursion (SimNodeRefines (λ x. created config) disks) sims
             (all_have config d sims
             (subst (λ (c : List ℕ). AllDifferent c) (sym are.nodes) lawful.different) all);

@@ -3,7 +3,7 @@
 use Rattle.std.proofs.Common.{◌≡◌, ◌≤◌, ℕ, suc, List, [], ◌∷◌, ◌++◌, length, Option, Some, None}
 use Rattle.std.proofs.Common.{true, refl, sym, ap, ap₂, subst, ◌∙◌, append_assoc, arith}
 use Rattle.configurations.specs.{Configurations, at_epoch}
-use Rattle.kv_types.specs.{BatchContent, has}
+use Rattle.kv_types.specs.{Edits, has}
 use Rattle.disk.specs.declared.Junk.{Junk}
 use Rattle.disk.specs.declared.disk.Disk.{Ghosts}
 use Rattle.chain_model.specs as model_frame
@@ -239,7 +239,7 @@ by_kind (Tend node) lines are = are (λ is. is)
 by_kind (Start node) lines are = are (λ is. is)
 by_kind (Stop node junk) lines are = are (λ is. is)
 
-module _ (cs : Configurations) (frames : List (model_frame.Message BatchContent)) (i : ℕ) where
+module _ (cs : Configurations) (frames : List (model_frame.Message Edits)) (i : ℕ) where
   -- an event had nothing to deliver, or was lost
   pub nothing_lines : (kind : EventKind) → HasNoDelivery cs frames kind →
       AreEventLines kind (line.Nothing ∷ [])

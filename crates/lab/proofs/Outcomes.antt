@@ -4,7 +4,7 @@ use Rattle.std.proofs.Common.{true, false, cond, inl, inr, refl, sym, ap, ap₂,
 use Rattle.std.proofs.lemmas.List.{map-append}
 use Rattle.std.specs.Prelude.{Bool, IfSome}
 use Rattle.std.proofs.lemmas.Bool.{cond-true, cond-false, false≢true}
-use Rattle.kv_types.specs.{BatchContent}
+use Rattle.kv_types.specs.{Edits}
 use Rattle.disk.specs.declared.Fault.{Fault}
 use Rattle.disk.specs.declared.Fault.TheVariants as fault
 use Rattle.disk.specs.{IsEnvironmental}
@@ -47,14 +47,14 @@ use Rattle.lab.proofs.Rises.{ChoosesNoRise, IsNoTend, RaisesAsTold, no_answer, n
 -- ---- outcomes
 
 -- a node that stops by itself stops for its device or for memory
-abbrev pub CauseFits : EventContent → Choice → Outcome BatchContent → Type 0
+abbrev pub CauseFits : EventContent → Choice → Outcome Edits → Type 0
 CauseFits event choice o =
     o.stopped ≡ true → IfSome (reported_cause event.kind event.fault choice)
     (IsEnvironmental Disk Memory)
 
 -- the node stopped where its doing says so, with the cause that was chosen: for its device where
 -- the fault struck
-abbrev pub StopsSo : EventContent → Choice → StepOutcome → Outcome BatchContent → Type 0
+abbrev pub StopsSo : EventContent → Choice → StepOutcome → Outcome Edits → Type 0
 StopsSo event choice (done.Answered output) o =
     (o.stopped ≡ false) × (output.dropped ≡ o.dropped)
 StopsSo event choice (done.Started epoch count committed) o = o.stopped ≡ false
@@ -78,7 +78,7 @@ with_fault kind it = record { kind = kind; fault = it }
 -- an event's outcome with its lines: the node that it was for, and the state of that node now,
 -- where the fault struck or did not; it was not lost, and its replies were heard so
 pub record IsOutcome {D : Type 0} {g : Ghosts D} (cs : Configurations)
-    (w : SystemState BatchContent)
+    (w : SystemState Edits)
     (i x : ℕ)
     (kind : EventKind) (it : Fault) (struck : Bool) (heard : List Bool) (new : NodeState D g)
     (did : StepOutcome) : Type 0 where
@@ -102,7 +102,7 @@ pub record IsOutcome {D : Type 0} {g : Ghosts D} (cs : Configurations)
 
 -- what a node's doing is at an outcome
 pub record IsTraced (x : ℕ) (event : EventContent) (choice : Choice) (did : StepOutcome)
-    (o : Outcome BatchContent)
+    (o : Outcome Edits)
     : Type 0 where
   pub frames : AreFrames (sent_by did) o.frames
   pub traced : (n : ℕ) → outcome_lines x (epoch_in event.kind) n did
@@ -127,18 +127,18 @@ chosen heard went struck cause =
       told = heard;
     }
 
-module _ {D : Type 0} {g : Ghosts D} (cs : Configurations) (w : SystemState BatchContent) (i x : ℕ)
+module _ {D : Type 0} {g : Ghosts D} (cs : Configurations) (w : SystemState Edits) (i x : ℕ)
     (kind : EventKind) (it : Fault) (new : NodeState D g) (did : StepOutcome) where
   -- with this choice the outcome is this one
   pub as_chosen : (choice : Choice) → choice.lost ≡ false →
-      (o : Outcome BatchContent) (n : Machine) → RiseFits kind choice o → RaisesAsTold x (w.nodes
+      (o : Outcome Edits) (n : Machine) → RiseFits kind choice o → RaisesAsTold x (w.nodes
       x) new choice did →
       outcome w cs (modelled i kind choice) ≡ o → o.acted_on ≡ Some (x, n) →
       StateRefines g.is_honest g.state new x n → IsTraced x (with_fault kind it) choice did o →
       IsOutcome cs w i x kind it choice.struck choice.told new did
   as_chosen choice arrives o n tends risen is_o came is tells =
       let same = sym is_o in
-      let all = subst (λ (p : Outcome BatchContent). IsTraced x (with_fault kind it) choice did p)
+      let all = subst (λ (p : Outcome Edits). IsTraced x (with_fault kind it) choice did p)
       same tells in
       record {
         choice = choice;
@@ -148,7 +148,7 @@ module _ {D : Type 0} {g : Ghosts D} (cs : Configurations) (w : SystemState Batc
         tends = subst (RiseFits kind choice) same tends;
         risen = risen;
         node = n;
-        came = ap (λ (p : Outcome BatchContent). p.acted_on) is_o ∙ came;
+        came = ap (λ (p : Outcome Edits). p.acted_on) is_o ∙ came;
         is = is;
         frames = all.frames;
         traced = all.traced;
@@ -161,7 +161,7 @@ module _ {D : Type 0} {g : Ghosts D} (cs : Configurations) (w : SystemState Batc
   -- so it is where nothing rises
   pub as_plain : (choice : Choice) → ChoosesNoRise choice → choice.lost ≡ false →
       IsNoTend did →
-      (o : Outcome BatchContent) (n : Machine) →
+      (o : Outcome Edits) (n : Machine) →
       outcome w cs (modelled i kind choice) ≡ o → o.acted_on ≡ Some (x, n) →
       StateRefines g.is_honest g.state new x n → IsTraced x (with_fault kind it) choice did o →
       IsOutcome cs w i x kind it choice.struck choice.told new did
@@ -172,7 +172,7 @@ module _ {D : Type 0} {g : Ghosts D} (cs : Configurations) (w : SystemState Batc
 -- ---- answers and stops
 
 -- an input's answer has the lines of the model's
-module _ (x : ℕ) (event : EventContent) (inp : Input) (choice : Choice) (a : Answer BatchContent)
+module _ (x : ℕ) (event : EventContent) (inp : Input) (choice : Choice) (a : Answer Edits)
     (output : Output) (is : IsAnswer inp a output) where
   answer_lines : (n : ℕ) → outcome_lines x (epoch_in event.kind) n (done.Answered output)
       ≡ answered_lines x (epoch_in event.kind) n a (replies_of inp a.replies)
@@ -237,8 +237,8 @@ drop_traced x event choice n why output is starts =
 -- ---- inputs
 
 -- replies have the same lines in the model and at the node
-shows_so : (inp : Input) (kind : EventKind) (replies : List (request.Response BatchContent)) →
-    ((r : request.Response BatchContent) → reply_line kind r
+shows_so : (inp : Input) (kind : EventKind) (replies : List (request.Response Edits)) →
+    ((r : request.Response Edits) → reply_line kind r
     ≡ map (λ reply. line.Replied reply) (replies_to_response inp r)) →
     reply_lines kind replies ≡ map (λ reply. line.Replied reply) (replies_of inp replies)
 shows_so inp kind [] each = refl
@@ -248,7 +248,7 @@ shows_so inp kind (r ∷ replies) each =
     (replies_of inp replies))
 
 -- an input, as the model has it
-module _ {D : Type 0} {g : Ghosts D} (cs : Configurations) (w : SystemState BatchContent) (i x : ℕ)
+module _ {D : Type 0} {g : Ghosts D} (cs : Configurations) (w : SystemState Edits) (i x : ℕ)
     (kind : EventKind) (it : Fault) (struck : Bool) (heard : List Bool) (inp : Input)
     (new : NodeState D g)
     (did : StepOutcome)
@@ -260,7 +260,7 @@ module _ {D : Type 0} {g : Ghosts D} (cs : Configurations) (w : SystemState Batc
     reported_cause kind it choice ≡ line_cause it choice.struck choice.cause)
     (turns : (choice : Choice) → TurnsSo x kind choice (answer_to x (w.nodes x) inp)
     × TurnsSo x kind choice (down_answer (w.nodes x) inp))
-    (replies : (r : request.Response BatchContent) → reply_line kind r
+    (replies : (r : request.Response Edits) → reply_line kind r
     ≡ map (λ reply. line.Replied reply) (replies_to_response inp r)) where
   runs : (choice : Choice) → (w.nodes x).running ≡ true → outcome w cs (arriving i kind choice)
       ≡ as_completed x (w.nodes x) (answer_to x (w.nodes x) inp) choice.went
@@ -271,7 +271,7 @@ module _ {D : Type 0} {g : Ghosts D} (cs : Configurations) (w : SystemState Batc
   rests choice off = at choice ∙ cond-false _ _ _ off
 
   -- the node answers so
-  tells : (a : Answer BatchContent) → (traced : HasAnswered did (IsAnswer inp a)) →
+  tells : (a : Answer Edits) → (traced : HasAnswered did (IsAnswer inp a)) →
       TurnsSo x kind (chosen heard Answered struck Disk) a →
       IsTraced x (with_fault kind it) (chosen heard Answered struck Disk) did (answers x a)
   tells a traced turn = subst (λ (d : StepOutcome). IsTraced x (with_fault kind it)

@@ -6,7 +6,7 @@ use Rattle.std.specs.List.{AllZip, HoldsAt}
 use Rattle.std.proofs.lemmas.Option.{slice_get_past, slice_get_within, slice_get-get_or}
 use Rattle.std.proofs.lemmas.Option.{get_or_from_slice_get}
 use Rattle.std.proofs.lemmas.List.Elements.{All-get_or}
-use Rattle.kv_types.specs.{BatchContent, place}
+use Rattle.kv_types.specs.{Edits, place}
 use Rattle.chain_model.specs.{Message as ModelFrame}
 use Rattle.lab.specs.declared.delivery.Posted.{Posted}
 use Rattle.lab.specs.Worlds.{PostedRefines}
@@ -46,7 +46,7 @@ place_at l p i x at within is =
     ∙ ap (λ y. Some y) (sym (is x))
 
 -- where nothing is posted the model has no frame
-pub none_kept : (posted : List Posted) (frames : List (ModelFrame BatchContent)) (p : ℕ) →
+pub none_kept : (posted : List Posted) (frames : List (ModelFrame Edits)) (p : ℕ) →
     AllZip PostedRefines posted frames → place posted p ≡ None → place frames p ≡ None
 none_kept [] [] p each none = refl
 none_kept [] (f ∷ frames) p each none = absurd each
@@ -60,13 +60,13 @@ none_kept (x ∷ posted) (f ∷ frames) (suc (suc p)) each none =
     none_kept posted frames (suc p) each.1 none
 
 -- a frame of the model that this posted one refines
-pub record Has (frames : List (ModelFrame BatchContent)) (p : ℕ) (posted : Posted) : Type 0 where
-  pub frame : ModelFrame BatchContent
+pub record Has (frames : List (ModelFrame Edits)) (p : ℕ) (posted : Posted) : Type 0 where
+  pub frame : ModelFrame Edits
   pub there : place frames p ≡ Some frame
   pub kept : PostedRefines posted frame
 
 -- the posted frame in a place refines a frame of the model in that place
-pub some_kept : (posted : List Posted) (frames : List (ModelFrame BatchContent)) (p : ℕ)
+pub some_kept : (posted : List Posted) (frames : List (ModelFrame Edits)) (p : ℕ)
     (x : Posted) → AllZip PostedRefines posted frames → place posted p ≡ Some x → Has frames p x
 some_kept [] frames p x each is = absurd (none_some is)
   where

@@ -4,11 +4,11 @@ use Rattle.std.specs.Prelude.{All, IfOk, Result, Ok, Err}
 use Rattle.std.specs.List.{AllZip, flat_map}
 use Rattle.std.proofs.lemmas.List.Elements.{All-weaker, recursion_from_All}
 use Rattle.kv_types.specs.declared.Limits.{Limits}
-use Rattle.kv_types.specs.{BatchContent, has, IsPrefix}
+use Rattle.kv_types.specs.{Edits, IsPrefix, has}
 use Rattle.kv_types.specs.Pages.{PagesAgree}
 use Rattle.disk.specs.{Slots}
 use Rattle.configurations.specs.{Configurations, last_of}
-use Rattle.chain_model.specs.{ResponseAgrees, OneList, batches}
+use Rattle.chain_model.specs.{ExactlyOnce, ResponseAgrees, OneList, batches}
 use Rattle.chain_model.specs.{RunIsOutcomes, Response, Outcome, submitted}
 use Rattle.chain_model.specs.{SystemEvent as ModelEvent}
 use Rattle.chain_model.specs.{outcomes, first_state, reached, node_of}
@@ -34,6 +34,7 @@ use Rattle.lab.specs.Traces.{modelled_from, IsTrace}
 use Rattle.lab.specs.Worlds.{AreLeft, AreNodesAfter, AreReportsAfter, HasRun, IsLeft, IsReportOf}
 use Rattle.lab.specs.Worlds.{MemNode, MemWorld, RunRefines, SimNodeRefines, WorldHasLimits}
 use Rattle.lab.specs.Worlds.{WorldRun, direct_carrier}
+use Rattle.lab.proofs.Acknowledged.{all_named}
 use Rattle.lab.proofs.Histories.{numbered_same, submitted_part, all_agree}
 use Rattle.lab.proofs.Submits.{all_ordered, all_submitted, part_of_part, submitted_from}
 use Rattle.lab.proofs.Nodes.{reported_ids}
@@ -44,33 +45,40 @@ pub one_of : {D N : Type 0} (g : Ghosts D) (id : N → ℕ) (disk : N → D)
     (steps : List (List Line))
     (nodes : List N) → IsTrace cs events choices steps →
     HaveDisks g id disk cs events choices nodes →
-    OneList cs (modelled_from 1 events choices) →
+    (one : OneList cs (modelled_from 1 events choices)) →
+    ExactlyOnce cs (modelled_from 1 events choices) one.B →
     RunIsOutcomes cs (modelled_from 1 events choices) → PagesAgree →
     IsHistory g.state id disk cs events steps nodes
-one_of g id disk cs events choices steps nodes trace disks one made pages =
+one_of g id disk cs events choices steps nodes trace disks one once made pages =
     let es = modelled_from 1 events choices in
     let same = numbered_same 1 events choices in
-    let agrees = subst (λ (l : List (ModelEvent BatchContent)). All (ResponseAgrees one.B)
+    let asked = submitted 1 es in
+    let agrees = subst (λ (l : List (ModelEvent Edits)). All (ResponseAgrees asked one.B)
     (reached cs l).replies) same one.agrees in
-    let joined = flat_map (λ (o : Outcome BatchContent). o.replies)
+    let joined = flat_map (λ (o : Outcome Edits). o.replies)
     (outcomes cs es (first_state cs))
     in
-    let replies = recursion_from_All (ResponseAgrees one.B) joined
-    (subst (λ (l : List (Response BatchContent)). All (ResponseAgrees one.B) l) made.replies agrees)
+    let replies = recursion_from_All (ResponseAgrees asked one.B) joined
+    (subst (λ (l : List (Response Edits)). All (ResponseAgrees asked one.B) l) made.replies agrees)
     in
-    let begins = subst (λ (l : List (ModelEvent BatchContent)). (x : ℕ) → has (last_of cs) x ≡ true
+    let begins = subst (λ (l : List (ModelEvent Edits)). (x : ℕ) → has (last_of cs) x ≡ true
     → IsPrefix (batches one.B) (node_of cs l x).list) same one.stands in
-    let part = part_of_part one.B (submitted 1 (modelled_from 1 events choices))
-    (submitted_from 1 events) one.taken (submitted_part 1 events choices trace.one_each) in
+    let asked_part = submitted_part 1 events choices trace.one_each in
+    let part = part_of_part one.B asked (submitted_from 1 events) one.taken asked_part in
+    let lines_agree = subst (λ (l : List (List Line)).
+    AllZip (λ event lines. All (LineAgrees events one.B event.kind) lines) events l)
+    (sym trace.traced)
+    (all_agree pages events asked asked_part one.B cs 1 events choices (first_state cs)
+    trace.one_each replies) in
+    let were_submitted = all_submitted one.B events part in
     record {
       B = one.B;
       clients = record {
-        submitted = all_submitted one.B events part;
+        submitted = were_submitted;
         ordered = all_ordered one.B events part;
-        agrees = subst (λ (l : List (List Line)).
-            AllZip (λ event lines. All (LineAgrees one.B event.kind) lines) events l)
-            (sym trace.traced)
-            (all_agree pages one.B cs 1 events choices (first_state cs) trace.one_each replies);
+        agrees = lines_agree;
+        once = once.once;
+        named = all_named events one.B were_submitted events steps lines_agree;
       };
       disks = All-weaker
           (λ node. IsDiskOf g.state (id node) (node_of cs es (id node)) (disk node)

@@ -1,6 +1,6 @@
 -- What a disk that crashed represents.
 use Rattle.std.proofs.Common.{◌≡◌, ◌⊎◌, ℕ, inl, inr, sym, subst}
-use Rattle.kv_types.specs.{BatchContent}
+use Rattle.kv_types.specs.{Edits}
 use Rattle.disk.specs.declared.Junk.{Junk}
 use Rattle.disk.specs.{Slot, State, Contents, contents, IsDurable, DurableIsLeft, IsCrashOutcome}
 use Rattle.disk.specs.{CrashOutcome, CrashedIsDurable}
@@ -21,7 +21,7 @@ module _ (left_exactly : DurableIsLeft) (always_sure : CrashedIsDurable) where
       subst (λ (l : Contents). DiskRefines l x (stopped n)) same r
 
   -- a crash leaves what represents the node as before the step or as after it
-  pub rests_as : (junk : Junk) (old new : State) (x : ℕ) (n : Machine) (a : Answer BatchContent) →
+  pub rests_as : (junk : Junk) (old new : State) (x : ℕ) (n : Machine) (a : Answer Edits) →
       CrashOutcome junk old new → IsCrashOutcome old (contents new) → StopRefines old x n a →
       DiskAlwaysRefines new x (stopped n) ⊎ DiskAlwaysRefines new x (stopped a.node)
   rests_as junk old new x n a crashes allowed stops = elim (stops (contents new) allowed) [

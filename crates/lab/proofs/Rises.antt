@@ -2,7 +2,7 @@
 use Rattle.std.proofs.Common.{◌≡◌, ℕ, Bool, [], true, false, refl, sym, ◌∙◌}
 use Rattle.std.proofs.lemmas.Bool.{false≢true}
 use Rattle.std.specs.Prelude.{Option}
-use Rattle.kv_types.specs.{BatchContent}
+use Rattle.kv_types.specs.{Edits}
 use Rattle.disk.specs.declared.Disk.{Ghosts}
 use Rattle.chain_model.specs.{Answered, Outcome}
 use Rattle.chain_core.specs.{Machine}
@@ -34,7 +34,7 @@ abbrev pub ChoosesNoRise : Choice → Type 0
 ChoosesNoRise choice = (choice.rises ≡ false) × (choice.gives_up ≡ 0)
 
 -- that fits every event
-pub no_rise : (kind : EventKind) (choice : Choice) (o : Outcome BatchContent) →
+pub no_rise : (kind : EventKind) (choice : Choice) (o : Outcome Edits) →
     ChoosesNoRise choice → RiseFits kind choice o
 no_rise kind choice o none = record {
   rises = λ rises. absurd (false≢true (sym none.0 ∙ rises));

@@ -1,7 +1,7 @@
 -- What the lines of an event show of the frames that were sent in it, and of its loss.
 use Rattle.std.proofs.Common.{◌≡◌, ◌≤◌, ◌+◌, ℕ, suc, Bool, List, [], ◌∷◌, ◌++◌, length, Option}
 use Rattle.std.proofs.Common.{Some, None, arith, false, refl, subst, sym, true}
-use Rattle.kv_types.specs.{BatchContent}
+use Rattle.kv_types.specs.{Edits}
 use Rattle.chain_model.specs as model_frame
 use Rattle.chain_model.specs.declared.DropReason.{DropReason}
 use Rattle.chain_core.specs.declared.Sent.{Sent}
@@ -163,7 +163,7 @@ outcome_shown asks x told did lines old new posted follow =
     })
 
 -- what was lost is carried
-pub lost_carried : (frames : List (model_frame.Message BatchContent)) (kind : EventKind) →
+pub lost_carried : (frames : List (model_frame.Message Edits)) (kind : EventKind) →
     ((IsCarriedEvent kind → ⊥) → MayBeLost frames kind) → IsCarriedEvent kind
 lost_carried frames (Submit node batch) may = tt
 lost_carried frames (Get node key at) may = tt

@@ -6,7 +6,7 @@ use Rattle.std.specs.List.{AllByRecursion}
 use Rattle.std.specs.Prelude.{All}
 use Rattle.std.proofs.lemmas.Bool.{cond_both, cond-true, cond-false, false≢true}
 use Rattle.std.proofs.lemmas.List.Elements.{All-get_or, recursion_from_All}
-use Rattle.kv_types.specs.{BatchContent, has, AllDifferent}
+use Rattle.kv_types.specs.{AllDifferent, Edits, has}
 use Rattle.disk.specs.declared.disk.Disk.{Ghosts}
 use Rattle.chain_model.specs.{SystemState, Outcome, after}
 use Rattle.chain_core.specs.{Machine}
@@ -55,8 +55,8 @@ module _ {D : Type 0} {g : Ghosts D} where
       (ap (λ (s : SimNode D g). s.id) is ∙ at.id own) had.is
 
 -- an event was for node x, which is n after it and has this disk
-module _ {D : Type 0} (g : Ghosts D) (w : SystemState BatchContent) (disks : ℕ → D)
-    (o : Outcome BatchContent) (x : ℕ)
+module _ {D : Type 0} (g : Ghosts D) (w : SystemState Edits) (disks : ℕ → D)
+    (o : Outcome Edits) (x : ℕ)
     (n : Machine) (own : D) (came : o.acted_on ≡ Some (x, n)) where
   -- the disks then
   abbrev now_disks : ℕ → D

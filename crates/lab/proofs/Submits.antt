@@ -1,7 +1,8 @@
 -- The batches that events submit, and what the parts of their list are.
 use Rattle.std.proofs.Common.{◌≡◌, inl, inr, ℕ, suc, ◌+◌, ◌<◌, List, [], ◌∷◌, Some}
-use Rattle.std.proofs.Common.{All, AllPairs, refl, sym, ap, subst, ◌∙◌, arith}
+use Rattle.std.proofs.Common.{All, AllPairs, Contains, refl, sym, ap, subst, ◌∙◌, arith}
 use Rattle.kv_types.specs.OrderLemmas.{Among, All-among, AllPairs-rises, Rises}
+use Rattle.kv_types.specs.OrderLemmas.{among_from_Contains}
 use Rattle.kv_types.specs.{Part, place}
 use Rattle.events.specs.declared.EventContent.{EventContent}
 use Rattle.events.specs.declared.EventKind.{EventKind}
@@ -106,14 +107,27 @@ in_places i (event ∷ events) = one event.kind (in_places (suc i) events)
 
 -- ---- a part of them
 
--- each batch of a part was submitted by the event at its place
+-- a batch of a part was submitted by the event at its place
+one_submitted : (B : List Placed) (events : List EventContent) → Part B (submitted_from 1 events) →
+    (placed : Placed) → Among placed B → IsSubmitted events placed
+one_submitted B events part placed a =
+    let it = from_event 0 events placed (part_among B (submitted_from 1 events) part placed a) in
+    let at : suc it.0 ≡ placed.0 = omega (arith, it.1) in
+    (it.2, it.3, subst (λ (n : ℕ). place events n ≡ Some it.3) at it.4, it.5)
+
+-- so was each
 pub all_submitted : (B : List Placed) (events : List EventContent) →
     Part B (submitted_from 1 events) →
     All (IsSubmitted events) B
-all_submitted B events part = All-among (IsSubmitted events) B (λ placed a.
-    let it = from_event 0 events placed (part_among B (submitted_from 1 events) part placed a) in
-    let at : suc it.0 ≡ placed.0 = omega (arith, it.1) in
-    (it.2, it.3, subst (λ (n : ℕ). place events n ≡ Some it.3) at it.4, it.5))
+all_submitted B events part =
+    All-among (IsSubmitted events) B (one_submitted B events part)
+
+-- and one that the model has among them
+pub was_submitted : (B : List Placed) (events : List EventContent) →
+    Part B (submitted_from 1 events) → (placed : Placed) → Contains B placed →
+    IsSubmitted events placed
+was_submitted B events part placed is =
+    one_submitted B events part placed (among_from_Contains B placed is)
 
 -- and a part of them is in the order of their submits
 pub all_ordered : (B : List Placed) (events : List EventContent) →

@@ -3,7 +3,7 @@ use Rattle.std.specs.Global.{Box}
 use Rattle.std.proofs.Common.{◌≡◌, ℕ, Bool, true, false, inl, inr, refl, sym, ap, subst, ◌∙◌}
 use Rattle.std.proofs.Common.{arith, List, Some}
 use Rattle.std.proofs.lemmas.Bool.{cond-true, cond-false, false≢true}
-use Rattle.kv_types.specs.{BatchContent}
+use Rattle.kv_types.specs.{Edits}
 use Rattle.disk.specs.declared.Disk.{Ghosts}
 use Rattle.disk.specs.declared.Fault.{Fault}
 use Rattle.chain_model.specs.declared.DropReason.TheVariants as reason
@@ -54,7 +54,7 @@ tend_again : (n : Machine) (kept : ℕ) →
 tend_again n kept =
     ap (λ (k : ℕ). record (tend n true kept).node { kept = k }) (kept_again n kept)
 
-module _ {D : Type 0} {g : Ghosts D} (cs : Configurations) (w : SystemState BatchContent) (i x : ℕ)
+module _ {D : Type 0} {g : Ghosts D} (cs : Configurations) (w : SystemState Edits) (i x : ℕ)
     (it : Fault) (struck : Bool) (heard : List Bool) (old new : NodeState D g) (did : StepOutcome)
   where
     -- the machine of the node
@@ -81,7 +81,7 @@ module _ {D : Type 0} {g : Ghosts D} (cs : Configurations) (w : SystemState Batc
     ran choice up = cond-true _ _ _ up
 
     -- the kept number of the machine behind it is what was given up
-    fits_risen : (rises : Bool) (kept : ℕ) (choice : Choice) (o : Outcome BatchContent)
+    fits_risen : (rises : Bool) (kept : ℕ) (choice : Choice) (o : Outcome Edits)
         (n : Machine) → choice.rises ≡ rises → choice.gives_up ≡ given_up rises kept →
         o.acted_on ≡ Some (x, n) → (rises ≡ true → kept ≡ n.kept) → RiseFits (Tend x) choice o
     fits_risen true kept choice o n rises gives_up after is = record {

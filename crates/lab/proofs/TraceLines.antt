@@ -2,7 +2,7 @@
 use Rattle.std.proofs.Common.{ℕ, suc, Bool, List, [], ◌∷◌, ◌++◌, length, Option, Some, None}
 use Rattle.std.specs.List.{AllByRecursion}
 use Rattle.std.proofs.lemmas.Bool.{cond_both}
-use Rattle.kv_types.specs.{BatchContent}
+use Rattle.kv_types.specs.{Edits}
 use Rattle.chain_model.specs.{Message, Forward, Ack, Outcome}
 use Rattle.chain_model.specs.declared.DropReason.{DropReason}
 use Rattle.chain_core.specs.{Machine}
@@ -70,14 +70,14 @@ module _ (Of : Line → Type 0) (quiet : IsQuiet Of) where
   if_tend None did = (quiet.tended did, tt)
   if_tend (Some why) did = tt
 
-  sent : (n : ℕ) (frames : List (Message BatchContent)) → Each (frame_lines n frames)
+  sent : (n : ℕ) (frames : List (Message Edits)) → Each (frame_lines n frames)
   sent n [] = tt
   sent n (Forward to epoch from number batch ∷ frames) =
       (quiet.forwarded (suc n) from to epoch number, sent (suc n) frames)
   sent n (Ack to epoch from committed have ∷ frames) =
       (quiet.acknowledged (suc n) from to epoch committed have, sent (suc n) frames)
 
-  turns : (kind : EventKind) (choice : Choice) (o : Outcome BatchContent) →
+  turns : (kind : EventKind) (choice : Choice) (o : Outcome Edits) →
       Each (turn_trace kind choice o)
   turns (Notice x epoch) choice o = if_adopts o.dropped o.acted_on
   turns (Tend x) choice o = if_tend o.dropped choice.tended
@@ -85,7 +85,7 @@ module _ (Of : Line → Type 0) (quiet : IsQuiet Of) where
   turns kind choice o = tt
 
   -- the lines of an event at a node
-  lines_have_at : (x n : ℕ) (event : EventContent) (choice : Choice) (o : Outcome BatchContent) →
+  lines_have_at : (x n : ℕ) (event : EventContent) (choice : Choice) (o : Outcome Edits) →
       Each (reply_lines event.kind o.replies) → Each (lines_at x n event choice o)
   lines_have_at x n event choice o have =
       let kind = event.kind in
@@ -102,7 +102,7 @@ module _ (Of : Line → Type 0) (quiet : IsQuiet Of) where
 
   -- so do those of an event that was for none
   lines_have : (at : Option (ℕ × Machine)) (n : ℕ) (event : EventContent) (choice : Choice)
-      (o : Outcome BatchContent) → Each (reply_lines event.kind o.replies) →
+      (o : Outcome Edits) → Each (reply_lines event.kind o.replies) →
       Each (lines_if at n event choice o)
   lines_have None n event choice o have = (quiet.nothing, tt)
   lines_have (Some at) n event choice o have = lines_have_at at.0 n event choice o have
@@ -117,7 +117,7 @@ module _ (Of : Line → Type 0) (quiet : IsQuiet Of) where
   arrived_have told (other ∷ lines) all = (all.0, arrived_have told lines all.1)
 
   -- and those of an event that may be lost
-  pub reported_have : (n : ℕ) (event : EventContent) (choice : Choice) (o : Outcome BatchContent) →
+  pub reported_have : (n : ℕ) (event : EventContent) (choice : Choice) (o : Outcome Edits) →
       Each (reply_lines event.kind o.replies) → Each (reported_lines n event choice o)
   reported_have n event choice o have =
       let lines = lines_if o.acted_on n event choice o in

@@ -1,7 +1,7 @@
 -- What was carried, one after another, and all that an event asks of the carrier.
 use Rattle.std.proofs.Common.{◌≡◌, ℕ, Bool, List, [], ◌++◌, length, Option, Some, None}
 use Rattle.std.proofs.Common.{sym, ap, ap₂, subst, ◌∙◌, append_assoc, append-nil}
-use Rattle.kv_types.specs.{BatchContent}
+use Rattle.kv_types.specs.{Edits}
 use Rattle.chain_model.specs.{Outcome}
 use Rattle.chain_core.specs.{Machine}
 use Rattle.std.proofs.lemmas.List.Elements.{All-append, All-nil}
@@ -42,7 +42,7 @@ module _ {C : Type 0} (h : Carriers C) where
   }
 
 module _ (posted : List Posted) (i : ℕ) (event : EventContent) (choice : Choice)
-    (o : Outcome BatchContent) where
+    (o : Outcome Edits) where
   -- where a node gave these lines, of which these were told
   pub sent_by_both : (x : ℕ) (n : Machine) (lost : Bool) (heard : List Bool) (given : List Line) →
       choice.lost ≡ lost → o.acted_on ≡ Some (x, n) → choice.told ≡ heard →

@@ -10,7 +10,7 @@ use Rattle.std.proofs.lemmas.List.{map-append}
 use Rattle.std.proofs.lemmas.List.Elements.{All-push, All-weaker}
 use Rattle.kv_types.specs.declared.bounds.TheConstants.{MAX_NUMBER}
 use Rattle.kv_types.specs.declared.Limits.{Limits}
-use Rattle.kv_types.specs.{BatchContent}
+use Rattle.kv_types.specs.{Edits}
 use Rattle.configurations.specs.{Configurations}
 use Rattle.chain_model.specs.{SystemState, first_state, node_of}
 use Rattle.link_messages.specs.Stream.{OneSpelling}
@@ -132,7 +132,7 @@ module _ {D C : Type 0} {g : Ghosts D} (h : Carriers C) (old begun mid new : Wor
           kept = keeps.kept ∙ ap (λ (w : World D C g). w.steps.items ++ lines ∷ []) delivers
               ∙ ap (λ (l : List (List Line)). l ++ lines ∷ []) run.kept;
           taken = begins.taken ∙ ap (λ (l : List EventContent). l ++ event ∷ []) run.taken;
-          lost = keeps.marked ∙ ap (λ (w : World D C g). w.lost.items ++ lost ∷ []) delivers
+          lost = keeps.noted ∙ ap (λ (w : World D C g). w.lost.items ++ lost ∷ []) delivers
               ∙ ap₂ (λ (l : List Bool) (b : Bool). l ++ b ∷ []) run.lost (sym lost_so)
               ∙ sym (map-append (λ (c : Choice). c.lost) past.choices (choice ∷ []));
           carrier = faithful;
@@ -147,7 +147,7 @@ module _ {D C : Type 0} {g : Ghosts D} (h : Carriers C) (old begun mid new : Wor
                 run.made.trace.one_each (omega arith) came.follow follow
                 (stay (follow_limited cs limits 1 past.events past.choices (first_state cs)
                 came.first old.nodes.items came.follow came.created.limits))
-                (subst (λ (v : SystemState BatchContent). NodesRefine v.nodes mid.nodes.items)
+                (subst (λ (v : SystemState Edits). NodesRefine v.nodes mid.nodes.items)
                 (run-push cs event choice 1 (suc (length past.events)) past.events past.choices
                 (first_state cs) run.made.trace.one_each (omega arith))
                 (All-weaker (SimNodeRefines machines ran.disks)

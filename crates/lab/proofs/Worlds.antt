@@ -10,7 +10,7 @@ use Rattle.std.proofs.lemmas.List.Elements.{recursion_from_All, All-from_recursi
 use Rattle.std.proofs.lemmas.Slice.Zip.{AllZip-long}
 use Rattle.kv_types.specs.declared.bounds.TheConstants.{MAX_NUMBER}
 use Rattle.kv_types.specs.declared.Limits.{Limits}
-use Rattle.kv_types.specs.{BatchContent, AllDifferent, has}
+use Rattle.kv_types.specs.{AllDifferent, Edits, has}
 use Rattle.disk.specs.declared.Junk.{Junk}
 use Rattle.configurations.specs.{Configurations, Lawful, at_epoch}
 use Rattle.chain_model.specs.{Message as ModelFrame, InOrder, SystemEvent as ModelEvent}
@@ -32,7 +32,7 @@ use Rattle.carriers.specs.declared.Delivery.{Delivery}
 use Rattle.carriers.specs.declared.Delivery.TheVariants as delivery
 use Rattle.carriers.specs.{Transmission, unless_lost}
 use Rattle.lab.specs.Deliveries.{IsDeliverable, IsDeliveryOf}
-use Rattle.lab.specs.Outcomes.{DiskFits, IsExplained, MarksFit, OutcomeRefines, StateFollows}
+use Rattle.lab.specs.Outcomes.{DiskFits, IncidentsFit, IsExplained, OutcomeRefines, StateFollows}
 use Rattle.lab.specs.Outcomes.{has_struck_in}
 use Rattle.lab.specs.OutcomeLines.{sent_by}
 use Rattle.lab.specs.Disks.{DiskFollows, HasGrown, StaysReliable, junk_of}
@@ -59,7 +59,7 @@ use Rattle.lab.proofs.Transmissions.{sent_alone, sent_by_both}
 -- the delivery that was found is that of the event, by the configurations and the frames that are
 -- posted
 abbrev pub FitsDelivery : Configurations → List Posted → ℕ → EventKind → Delivery → Type 0
-FitsDelivery cs posted i kind found = (frames : List (ModelFrame BatchContent)) →
+FitsDelivery cs posted i kind found = (frames : List (ModelFrame Edits)) →
     AllZip PostedRefines posted frames → IsDeliverable cs frames i kind found
 
 -- the number is the place of the event behind these
@@ -69,7 +69,7 @@ pub record IsNext (events : List EventContent) (i : ℕ) : Type 0 where
 
 -- in every run frames are in order
 abbrev pub AlwaysInOrder : Type 0
-AlwaysInOrder = (cs : Configurations) (es : List (ModelEvent BatchContent)) → Lawful cs →
+AlwaysInOrder = (cs : Configurations) (es : List (ModelEvent Edits)) → Lawful cs →
     InOrder cs es
 
 module _ {D : Type 0} {g : Ghosts D} (in_order : AlwaysInOrder) (past : WorldRun)
@@ -85,7 +85,7 @@ module _ {D : Type 0} {g : Ghosts D} (in_order : AlwaysInOrder) (past : WorldRun
   choices = past.choices
 
   -- the world of the model so far
-  abbrev pub w : SystemState BatchContent
+  abbrev pub w : SystemState Edits
   w = reached cs (modelled_from 1 events choices)
 
   -- what the event sends is numbered
@@ -96,7 +96,7 @@ module _ {D : Type 0} {g : Ghosts D} (in_order : AlwaysInOrder) (past : WorldRun
       let here = run-push cs event choice 1 i events choices (first_state cs)
       made.trace.one_each (omega (arith, next.at)) in
       back IsNumbered w.frames (outcome w cs (modelled i event.kind choice)).frames
-      (subst (λ (v : SystemState BatchContent). AllByRecursion IsNumbered v.frames) here
+      (subst (λ (v : SystemState Edits). AllByRecursion IsNumbered v.frames) here
       (all_numbered cs more (in_order cs more made.lawful)))
 
   -- the world has the node that an event is for
@@ -130,7 +130,7 @@ module _ {D : Type 0} {g : Ghosts D} (in_order : AlwaysInOrder) (past : WorldRun
     pub sent : asked_after past posted event choice ≡ asked
 
   -- what holds by the outcome in the event's place holds behind the run
-  behind : (P : ℕ → Outcome BatchContent → Type 0) (choice : Choice) →
+  behind : (P : ℕ → Outcome Edits → Type 0) (choice : Choice) →
       P i (outcome w cs (modelled i event.kind choice)) →
       P (suc (length events)) (outcome_after past event choice)
   behind P choice is = subst (λ (k : ℕ). P k (outcome w cs (modelled k event.kind choice)))
@@ -142,7 +142,7 @@ module _ {D : Type 0} {g : Ghosts D} (in_order : AlwaysInOrder) (past : WorldRun
       NodesFollow o.acted_on event choice o sims now) →
       FollowRun past event choice sims now
   followed choice now is =
-      behind (λ (k : ℕ) (o : Outcome BatchContent). NodesFollow o.acted_on event choice o sims now)
+      behind (λ (k : ℕ) (o : Outcome Edits). NodesFollow o.acted_on event choice o sims now)
       choice is
 
   -- a step of the node refines one event more, of whose lines so much arrives
@@ -185,17 +185,17 @@ module _ {D : Type 0} {g : Ghosts D} (in_order : AlwaysInOrder) (past : WorldRun
       (subst (λ (j : Option Junk). DiskFits g.state g.failures g.past j event.fault struck t.did
       (disk_in old.state) sim.state)
       (junk_same cs w.frames i x event.kind node_input brings) (t.took.dispatched.disk honest))) in
-      let marked : MarksFit g.state g.past g.marks
+      let occurred : IncidentsFit g.state g.past g.incidents
       (junk_of event.kind) event.fault out.choice.struck
       t.did (made.disks x) sim.state =
-      subst (λ (b : Bool). MarksFit g.state g.past g.marks (junk_of event.kind) event.fault b t.did
-      (made.disks x) sim.state) (sym out.chose)
-      (subst (λ (d : D). MarksFit g.state g.past g.marks
+      subst (λ (b : Bool). IncidentsFit g.state g.past g.incidents (junk_of event.kind) event.fault
+      b t.did (made.disks x) sim.state) (sym out.chose)
+      (subst (λ (d : D). IncidentsFit g.state g.past g.incidents
       (junk_of event.kind) event.fault struck
       t.did d sim.state) slots
-      (subst (λ (j : Option Junk). MarksFit g.state g.past g.marks j event.fault struck t.did
-      (disk_in old.state) sim.state)
-      (junk_same cs w.frames i x event.kind node_input brings) (t.took.dispatched.marked honest)))
+      (subst (λ (j : Option Junk). IncidentsFit g.state g.past g.incidents j event.fault struck
+      t.did (disk_in old.state) sim.state)
+      (junk_same cs w.frames i x event.kind node_input brings) (t.took.dispatched.occurred honest)))
       in
       let few = made.few x in
       let may : MayRise g (made.disks x) = omega (arith, few, next.at, next.fits) in
@@ -210,7 +210,7 @@ module _ {D : Type 0} {g : Ghosts D} (in_order : AlwaysInOrder) (past : WorldRun
       let o = outcome w cs (modelled i event.kind out.choice) in
       let follow = follows (made.disks x) sim.state may event out.choice o x out.node t.did out.is
       so
-      out.ends left marked why grows in
+      out.ends left occurred why grows in
       let id : sim.id ≡ x = t.took.id in
       let long = AllZip-long PostedRefines posted w.frames made.frames in
       let gives_posted = t.traced ∙ out.traced (length posted) in
@@ -293,10 +293,10 @@ module _ {D : Type 0} {g : Ghosts D} (in_order : AlwaysInOrder) (past : WorldRun
                   (w.nodes x) k old.state sim.state t.did) turn.1
                   (t.took.dispatched.refines x (w.nodes x) before)) out.told out.risen;
             }));
-        frames = behind (λ (k : ℕ) (v : Outcome BatchContent). FramesFollow v.acted_on posted more)
+        frames = behind (λ (k : ℕ) (v : Outcome Edits). FramesFollow v.acted_on posted more)
             out.choice (subst (λ (a : Option (ℕ × Machine)). FramesFollow a posted more)
             (sym out.came) (frames_of x out.node posted more (sent_by t.did) t.sent));
-        sent = behind (λ (k : ℕ) (v : Outcome BatchContent).
+        sent = behind (λ (k : ℕ) (v : Outcome Edits).
             transmissions_of posted k event out.choice v
             ≡ frame_sent posted i event.kind (unless_lost false) ++ replies_sent x heard.told given)
             out.choice (sent_by_both posted i event out.choice o x out.node false heard.told given
@@ -315,24 +315,24 @@ module _ {D : Type 0} {g : Ghosts D} (in_order : AlwaysInOrder) (past : WorldRun
       let choice = at_rest lost in
       let same : after w nothing ≡ state_after cs w (modelled i event.kind choice) =
       ap (after w) (sym none) in
-      let idle = ap (λ (o : Outcome BatchContent). o.acted_on) none in
+      let idle = ap (λ (o : Outcome Edits). o.acted_on) none in
       let came = grown past sims posted made i event choice sims posted
       (line ∷ []) next.at (record {
         traced = traced ∙ ap (reported_lines (length w.frames) event choice) (sym none);
         fits = record {
           cause = λ stops. absurd (false≢true
-              (ap (λ (o : Outcome BatchContent). o.stopped) (sym none) ∙ stops));
+              (ap (λ (o : Outcome Edits). o.stopped) (sym none) ∙ stops));
           struck = λ strikes. absurd (false≢true strikes);
           tends = no_rise event.kind choice
               (outcome w cs (modelled i event.kind choice)) (refl, refl);
           lost = fits;
-          told = ap (λ (o : Outcome BatchContent). reply_count
+          told = ap (λ (o : Outcome Edits). reply_count
               (lines_of_event (length w.frames) event choice o)) (sym none);
         };
         counted = omega (arith, silent)
-            ∙ ap (λ (o : Outcome BatchContent). length o.frames) (sym none);
-        frames = subst (λ (v : SystemState BatchContent). AllZip PostedRefines posted v.frames) same
-            (subst (λ (l : List (ModelFrame BatchContent)). AllZip PostedRefines posted l)
+            ∙ ap (λ (o : Outcome Edits). length o.frames) (sym none);
+        frames = subst (λ (v : SystemState Edits). AllZip PostedRefines posted v.frames) same
+            (subst (λ (l : List (ModelFrame Edits)). AllZip PostedRefines posted l)
             (sym (append-nil w.frames)) made.frames);
         nodes = made.nodes;
         disks = made.disks;
@@ -340,7 +340,7 @@ module _ {D : Type 0} {g : Ghosts D} (in_order : AlwaysInOrder) (past : WorldRun
             idle;
         few = λ x. omega (arith, made.few x, next.at);
         unarmed = made.unarmed;
-        each = subst (λ (v : SystemState BatchContent). All (SimNodeRefines v.nodes made.disks)
+        each = subst (λ (v : SystemState Edits). All (SimNodeRefines v.nodes made.disks)
             sims) same
             made.each;
       })
@@ -355,10 +355,10 @@ module _ {D : Type 0} {g : Ghosts D} (in_order : AlwaysInOrder) (past : WorldRun
         nodes = followed choice sims (subst (λ (a : Option (ℕ × Machine)).
             NodesFollow a event choice (outcome w cs (modelled i event.kind choice)) sims sims)
             (sym idle) refl);
-        frames = behind (λ (k : ℕ) (o : Outcome BatchContent).
+        frames = behind (λ (k : ℕ) (o : Outcome Edits).
             FramesFollow o.acted_on posted posted) choice
             (subst (λ (a : Option (ℕ × Machine)). FramesFollow a posted posted) (sym idle) refl);
-        sent = behind (λ (k : ℕ) (o : Outcome BatchContent).
+        sent = behind (λ (k : ℕ) (o : Outcome Edits).
             transmissions_of posted k event choice o ≡ frame_sent posted i event.kind (unless_lost
             lost)) choice
             (sent_alone posted i event choice (outcome w cs (modelled i event.kind choice)) idle);

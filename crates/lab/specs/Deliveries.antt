@@ -1,6 +1,6 @@
 -- What an event delivers to a simulated node: the node's id and its input.
 use Rattle.std.specs.Prelude.{◌≡◌, ℕ, ◌<◌, ◌≤◌, List, [], length, Option, Some, None}
-use Rattle.kv_types.specs.{BatchContent, place}
+use Rattle.kv_types.specs.{Edits, place}
 use Rattle.configurations.specs.{Configurations, at_epoch}
 use Rattle.chain_model.specs as model_frame
 use Rattle.link_messages.specs.declared.Frame.{Frame}
@@ -31,9 +31,9 @@ abbrev pub IsPostedAt : List Posted → ℕ → Posted → Type 0
 IsPostedAt frames p posted = place frames p ≡ Some posted
 
 -- the frame in place p is for node x, and is this input to it
-pub record IsDelivered (frames : List (model_frame.Message BatchContent)) (p x : ℕ)
+pub record IsDelivered (frames : List (model_frame.Message Edits)) (p x : ℕ)
     (node_input : NodeInput) : Type 0 where
-  pub frame : model_frame.Message BatchContent
+  pub frame : model_frame.Message Edits
   pub there : place frames p ≡ Some frame
   pub it : Frame
   pub same : frame_as x it ≡ Some frame
@@ -56,7 +56,7 @@ IsCarriedEvent (Deliver p) = Unit {0}
 IsCarriedEvent kind = ⊥
 
 -- what events deliver after these frames, where this is the list of configurations
-module _ (cs : Configurations) (frames : List (model_frame.Message BatchContent)) where
+module _ (cs : Configurations) (frames : List (model_frame.Message Edits)) where
   -- the event in place i delivers this input to node x
   abbrev pub IsDeliveryOf : ℕ → EventKind → ℕ → NodeInput → Type 0
   IsDeliveryOf i (Submit node batch) x node_input =

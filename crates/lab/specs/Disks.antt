@@ -2,14 +2,14 @@
 use Rattle.std.specs.Prelude.{◌≡◌, ℕ, suc, ◌+◌, ◌-◌, ◌^◌, ◌<◌, nat_le, List, [], ◌∷◌, ◌++◌, length}
 use Rattle.std.specs.Prelude.{map}
 use Rattle.std.specs.Prelude.{◌⊎◌, All, Bool, true, false, Option, Some, None, IsSome}
-use Rattle.kv_types.specs.{BatchContent}
+use Rattle.kv_types.specs.{Edits}
 use Rattle.disk.specs.declared.disk.Disk.{Ghosts}
 use Rattle.disk.specs.declared.Fault.{Fault}
 use Rattle.disk.specs.declared.Fault.TheVariants as fault
 use Rattle.disk.specs.declared.Junk.{Junk}
 use Rattle.disk.specs.declared.Junk.TheVariants.{Old}
-use Rattle.disk.specs.declared.Mark.TheVariants.{Armed, Crashed}
-use Rattle.disk.specs.{AddsMoment, CrashOutcome, IsLastLeft, Marks, State, struck_call}
+use Rattle.disk.specs.declared.Incident.TheVariants.{Armed, Crashed}
+use Rattle.disk.specs.{AddsMoment, CrashOutcome, Incidents, IsLastLeft, State, struck_call}
 use Rattle.configurations.specs.{Configurations, at_epoch}
 use Rattle.chain_model.specs as model
 use Rattle.chain_core.specs.{Machine}
@@ -86,43 +86,43 @@ IsStopOf g None fault choice old new = IsEndOf g (junk_at_end fault choice.struc
 abbrev pub HasGrown : {D : Type 0} → (D → List State) → D → D → Type 0
 HasGrown past old new = (since : List State) × (past new ≡ since ++ past old)
 
--- The marks of a step, from a past of one length to one of another, in front of those before it:
--- its fault was armed at first, and forgotten at the end; or the node stopped, and its disk
+-- The incidents of a step, from a past of one length to one of another, in front of those before
+-- it: its fault was armed at first, and forgotten at the end; or the node stopped, and its disk
 -- crashed.
-abbrev pub marks_of_step : Fault → Bool → Bool → ℕ → ℕ → Marks → Marks
-marks_of_step fault struck false before now old =
+abbrev pub incidents_of_step : Fault → Bool → Bool → ℕ → ℕ → Incidents → Incidents
+incidents_of_step fault struck false before now old =
     (now, Armed None) ∷ (before, Armed (struck_call fault)) ∷ old
-marks_of_step fault struck true before now old =
+incidents_of_step fault struck true before now old =
     (now, Crashed (junk_at_end fault struck)) ∷ (before, Armed (struck_call fault)) ∷ old
 
 -- .. of a node that an event may have stopped with its junk: then this is the only one
-abbrev pub marks_of_event : Option Junk → Fault → Bool → Bool → ℕ → ℕ → Marks → Marks
-marks_of_event (Some junk) fault struck stopped before now old = (now, Crashed junk) ∷ old
-marks_of_event None fault struck stopped before now old =
-    marks_of_step fault struck stopped before now old
+abbrev pub incidents_of_event : Option Junk → Fault → Bool → Bool → ℕ → ℕ → Incidents → Incidents
+incidents_of_event (Some junk) fault struck stopped before now old = (now, Crashed junk) ∷ old
+incidents_of_event None fault struck stopped before now old =
+    incidents_of_step fault struck stopped before now old
 
--- the disk has had exactly these marks since, and its state is the latest of its past
-pub record IsMarkedSo {D : Type 0} (state : D → State) (past : D → List State)
-    (marks : D → Marks) (so : Marks) (new : D) : Type 0 where
-  pub marked : marks new ≡ so
+-- the disk has had exactly these incidents since, and its state is the latest of its past
+pub record HasIncidents {D : Type 0} (state : D → State) (past : D → List State)
+    (incidents : D → Incidents) (so : Incidents) (new : D) : Type 0 where
+  pub occurred : incidents new ≡ so
   pub last : IsLastLeft (past new) (state new)
 
 -- A node had nothing to do for its event, and has the very disk. Or it worked, and its disk has the
--- marks of that.
-abbrev pub IsMarkedBy : {D : Type 0} → (D → State) → (D → List State) → (D → Marks) → Type 0
+-- incidents of that.
+abbrev pub HasIncidentsOf : {D : Type 0} → (D → State) → (D → List State) → (D → Incidents) → Type 0
     → Option Junk → Fault → Bool → Bool → D → D → Type 0
-IsMarkedBy state past marks may_rest junk fault struck stopped old new =
+HasIncidentsOf state past incidents may_rest junk fault struck stopped old new =
     (may_rest × (stopped ≡ false) × (new ≡ old))
-    ⊎ IsMarkedSo state past marks (marks_of_event junk fault struck stopped (length (past old))
-    (length (past_of_step stopped (past new))) (marks old)) new
+    ⊎ HasIncidents state past incidents (incidents_of_event junk fault struck stopped
+    (length (past old)) (length (past_of_step stopped (past new))) (incidents old)) new
 
 -- what an event leaves of the disk of the node that it was for, which is n after it
 pub record DiskFollows {D : Type 0} (g : Ghosts D) (event : EventContent)
-    (choice : Choice) (o : model.Outcome BatchContent) (n : Machine) (old new : D) : Type 0 where
+    (choice : Choice) (o : model.Outcome Edits) (n : Machine) (old new : D) : Type 0 where
   -- it is the same disk
   pub grows : HasGrown g.past old new
   -- a node that runs has worked, unless its event was dropped
-  pub marked : IsMarkedBy g.state g.past g.marks ((n.running ≡ false) ⊎ IsSome o.dropped)
+  pub occurred : HasIncidentsOf g.state g.past g.incidents ((n.running ≡ false) ⊎ IsSome o.dropped)
       (junk_of event.kind) event.fault choice.struck o.stopped old new
   -- the fault struck exactly where the disk has had so many calls in the step
   pub fault : choice.struck ≡ has_reached (struck_call event.fault) (length (g.past old))
@@ -136,7 +136,7 @@ pub record DiskFollows {D : Type 0} (g : Ghosts D) (event : EventContent)
 
 -- what an event leaves of all disks, by the ids of their nodes
 pub record DisksFollow {D : Type 0} (g : Ghosts D) (event : EventContent)
-    (choice : Choice) (o : model.Outcome BatchContent) (old new : ℕ → D) : Type 0 where
+    (choice : Choice) (o : model.Outcome Edits) (old new : ℕ → D) : Type 0 where
   pub at : (x : ℕ) (n : Machine) → o.acted_on ≡ Some (x, n) →
       DiskFollows g event choice o n (old x) (new x)
   pub others : (x : ℕ) → ((n : Machine) → o.acted_on ≡ Some (x, n) → ⊥) → new x ≡ old x
@@ -144,7 +144,7 @@ pub record DisksFollow {D : Type 0} (g : Ghosts D) (event : EventContent)
 -- what the events from place i on leave of all disks, one event after another, from a world on
 abbrev pub AllFollow : {D : Type 0} → Ghosts D → Configurations → ℕ → List EventContent
     → List Choice →
-    model.SystemState BatchContent → (ℕ → D)
+    model.SystemState Edits → (ℕ → D)
     → (ℕ → D) → Type 0
 AllFollow g cs i [] choices w old new = new ≡ old
 AllFollow g cs i (event ∷ events) [] w old new = ⊥
@@ -157,7 +157,7 @@ AllFollow {D} g cs i (event ∷ events) (choice ∷ choices) w old new =
 -- past
 abbrev pub IsNewDisk : {D : Type 0} → Ghosts D → D → Type 0
 IsNewDisk g disk =
-    IsMarkedSo g.state g.past g.marks ((length (g.past disk), Armed None) ∷ []) disk
+    HasIncidents g.state g.past g.incidents ((length (g.past disk), Armed None) ∷ []) disk
 
 -- the disks that a run leaves, by the ids of their nodes: no call of them failed before it
 pub record AreDisksAfter {D : Type 0} (g : Ghosts D)
@@ -166,7 +166,7 @@ pub record AreDisksAfter {D : Type 0} (g : Ghosts D)
   where
     pub first : ℕ → D
     pub begun : (x : ℕ) → g.failures (first x) ≡ 0
-    pub marked : (x : ℕ) → IsNewDisk g (first x)
+    pub occurred : (x : ℕ) → IsNewDisk g (first x)
     pub follow : AllFollow g cs 1 events choices
         (model.first_state cs) first
         disks

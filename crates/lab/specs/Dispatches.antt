@@ -19,8 +19,8 @@ use Rattle.lab.specs.declared.input.StepOutcome.TheVariants as done
 use Rattle.lab.specs.declared.node_state.NodeState.{NodeState}
 use Rattle.lab.specs.declared.node_state.NodeState.TheVariants.{Up, Down}
 use Rattle.lab.specs.Disks.{HasGrown}
-use Rattle.lab.specs.Outcomes.{DiskFits, IsAnswerAtRest, IsDrop, IsExplained, IsIgnored, MarksFit}
-use Rattle.lab.specs.Outcomes.{OutcomeRefines, StateFollows, has_struck_in, input_junk}
+use Rattle.lab.specs.Outcomes.{DiskFits, IncidentsFit, IsAnswerAtRest, IsDrop, IsExplained}
+use Rattle.lab.specs.Outcomes.{IsIgnored, OutcomeRefines, StateFollows, has_struck_in, input_junk}
 use Rattle.lab.specs.SimNodes.{StateHasLimits, StateIsReady, StateIsSound, StateRefines, IsDown}
 use Rattle.lab.specs.SimNodes.{disk_in}
 
@@ -96,13 +96,13 @@ pub record HasDispatched {D : Type 0} (g : Ghosts D) (given : Limits) (fault : F
   pub explains : g.is_honest (disk_in old) → node_input ≡ to_node.Start →
       (cause : Cause) → did ≡ done.Stopped (Some cause) →
       StartRefusal cause (contents (g.state (disk_in old)))
-  pub marked : g.is_honest (disk_in old) →
-      MarksFit g.state g.past g.marks (input_junk node_input) fault
+  pub occurred : g.is_honest (disk_in old) →
+      IncidentsFit g.state g.past g.incidents (input_junk node_input) fault
       (has_struck_in g.past fault (disk_in old) new) did (disk_in old) new
   -- the fault is forgotten
   pub forgets : g.is_honest (disk_in old) →
-      (IsIgnored old node_input → fault_of (g.marks (disk_in old)) ≡ None) →
-      fault_of (g.marks (disk_in new)) ≡ None
+      (IsIgnored old node_input → fault_of (g.incidents (disk_in old)) ≡ None) →
+      fault_of (g.incidents (disk_in new)) ≡ None
   -- .. if the node refines a machine
   pub refines : (x : ℕ) (n : Machine) → StateRefines g.is_honest g.state old x n →
       OutcomeRefines g.is_honest g.state fault

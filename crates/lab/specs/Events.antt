@@ -2,7 +2,7 @@
 use Rattle.std.specs.Prelude.{◌≡◌, ℕ, suc, List, [], ◌∷◌, ◌++◌, length, Option, Some, None}
 use Rattle.std.specs.Prelude.{Bool, IfSome, IsSome, true, false, if◌then◌else◌}
 use Rattle.std.specs.List.{flat_map}
-use Rattle.kv_types.specs.{BatchContent, map_of, place}
+use Rattle.kv_types.specs.{BatchContent, Edits, map_of, place}
 use Rattle.kv_types.specs.Pages.{page_of}
 use Rattle.disk.specs.{IsEnvironmental}
 use Rattle.disk.specs.declared.Fault.{Fault}
@@ -27,7 +27,7 @@ use Rattle.lab.specs.declared.report.Line.TheVariants as line
 use Rattle.lab.specs.SimNodes.{Choice}
 
 -- the event in place i that was not lost, as the model has it, by what was chosen in it
-abbrev pub arriving : ℕ → EventKind → Choice → model_frame.SystemEvent BatchContent
+abbrev pub arriving : ℕ → EventKind → Choice → model_frame.SystemEvent Edits
 arriving i (Submit node batch) choice =
     SystemEvent.Ask node i (Request.Submit batch) choice.went
 arriving i (Get node key at) choice = SystemEvent.Ask node i (Request.Read at) choice.went
@@ -42,7 +42,7 @@ arriving i (Start node) choice = SystemEvent.Start node choice.went
 arriving i (Stop node junk) choice = SystemEvent.Stop node
 
 -- the event in place i, as the model has it: one that was lost keeps its place
-abbrev pub modelled : ℕ → EventKind → Choice → model_frame.SystemEvent BatchContent
+abbrev pub modelled : ℕ → EventKind → Choice → model_frame.SystemEvent Edits
 modelled i kind choice = if choice.lost then SystemEvent.Lost else arriving i kind choice
 
 -- a drop has a line with its reason
@@ -72,21 +72,21 @@ if_tended None did = line.Tended did ∷ []
 if_tended (Some why) did = []
 
 -- the line of an event that is no frame or reply
-abbrev pub turn_trace : EventKind → Choice → model_frame.Outcome BatchContent → List Line
+abbrev pub turn_trace : EventKind → Choice → model_frame.Outcome Edits → List Line
 turn_trace (Start node) choice o = if_started o.dropped o.acted_on
 turn_trace (Notice node epoch) choice o = if_adopted o.dropped o.acted_on
 turn_trace (Tend node) choice o = if_tended o.dropped choice.tended
 turn_trace kind choice o = []
 
 -- a frame that is sent has a line with its place among all, from 1
-abbrev pub frame_line : ℕ → model_frame.Message BatchContent → Line
+abbrev pub frame_line : ℕ → model_frame.Message Edits → Line
 frame_line place (Message.Forward to epoch from number batch) =
     line.Forwarded place from to epoch number
 frame_line place (Message.Ack to epoch from committed have) =
     line.Acknowledged place from to epoch committed have
 
 -- the frames that are sent after so many others
-abbrev pub frame_lines : ℕ → List (model_frame.Message BatchContent) → List Line
+abbrev pub frame_lines : ℕ → List (model_frame.Message Edits) → List Line
 frame_lines sent [] = []
 frame_lines sent (frame ∷ frames) = frame_line (suc sent) frame ∷ frame_lines (suc sent) frames
 
@@ -100,7 +100,7 @@ value_lines (Rows node range at) i s batches =
 value_lines kind i s batches = []
 
 -- the line of a reply
-abbrev pub reply_line : EventKind → model_frame.Response BatchContent → List Line
+abbrev pub reply_line : EventKind → model_frame.Response Edits → List Line
 reply_line kind (Response.Committed i k) = line.Replied (reply.Committed i k) ∷ []
 reply_line kind (Response.Shows i s batches) = value_lines kind i s batches
 reply_line kind (Response.Opened i s) = line.Replied (reply.Opened i s) ∷ []
@@ -109,7 +109,7 @@ reply_line kind (Response.Refused i why) =
     line.Replied (reply.Refused i why) ∷ []
 
 -- the lines of replies, in order
-abbrev pub reply_lines : EventKind → List (model_frame.Response BatchContent) → List Line
+abbrev pub reply_lines : EventKind → List (model_frame.Response Edits) → List Line
 reply_lines kind replies = flat_map (reply_line kind) replies
 
 -- a node that stops by itself reports the cause, but not where a fault stopped its machine
@@ -126,7 +126,7 @@ reported_cause kind fault choice = line_cause fault choice.struck choice.cause
 
 -- the lines of an event at node x: why it was dropped, then a start, an adoption or a tend, then
 -- frames, then replies
-abbrev pub lines_at : ℕ → ℕ → EventContent → Choice → model_frame.Outcome BatchContent → List Line
+abbrev pub lines_at : ℕ → ℕ → EventContent → Choice → model_frame.Outcome Edits → List Line
 lines_at x sent event choice o =
     if o.stopped then line.Stopped x (reported_cause event.kind event.fault choice) ∷ []
     else dropped_lines o.dropped ++ (turn_trace event.kind choice o
@@ -134,14 +134,14 @@ lines_at x sent event choice o =
 
 -- the lines of an event, after so many frames
 abbrev pub lines_if : Option (ℕ × Machine) → ℕ → EventContent → Choice
-    → model_frame.Outcome BatchContent
+    → model_frame.Outcome Edits
     → List Line
 lines_if None sent event choice o = line.Nothing ∷ []
 lines_if (Some at) sent event choice o = lines_at at.0 sent event choice o
 
 -- the lines that the node gives of an event after so many frames, and of one that stopped by itself
 -- the cause
-abbrev pub lines_of_event : ℕ → EventContent → Choice → model_frame.Outcome BatchContent → List Line
+abbrev pub lines_of_event : ℕ → EventContent → Choice → model_frame.Outcome Edits → List Line
 lines_of_event sent event choice o = lines_if o.acted_on sent event choice o
 
 -- how many of these lines are replies
@@ -170,13 +170,13 @@ arrived told (other ∷ lines) = other ∷ arrived told lines
 
 -- the lines of an event after so many frames: of one that was lost only that, and else those of the
 -- node, with the replies that arrived
-abbrev pub reported_lines : ℕ → EventContent → Choice → model_frame.Outcome BatchContent → List Line
+abbrev pub reported_lines : ℕ → EventContent → Choice → model_frame.Outcome Edits → List Line
 reported_lines sent event choice o =
     if choice.lost then line.Lost ∷ []
     else arrived choice.told (lines_of_event sent event choice o)
 
 -- the event has a request or a frame, which may be lost, after these frames
-abbrev pub MayBeLost : List (model_frame.Message BatchContent) → EventKind → Type 0
+abbrev pub MayBeLost : List (model_frame.Message Edits) → EventKind → Type 0
 MayBeLost frames (Submit node batch) = Unit {0}
 MayBeLost frames (Get node key at) = Unit {0}
 MayBeLost frames (Rows node range at) = Unit {0}
@@ -186,7 +186,7 @@ MayBeLost frames (Deliver p) = IsSome (place frames p)
 MayBeLost frames kind = ⊥
 
 -- The event is a tend of a node, and its kept number after it is what was given up.
-pub record HasRaised (kind : EventKind) (choice : Choice) (o : model_frame.Outcome BatchContent) :
+pub record HasRaised (kind : EventKind) (choice : Choice) (o : model_frame.Outcome Edits) :
     Type 0
   where
     pub node : ℕ
@@ -196,15 +196,15 @@ pub record HasRaised (kind : EventKind) (choice : Choice) (o : model_frame.Outco
     pub gives_up : choice.gives_up ≡ machine.kept
 
 -- a floor rises in a tend alone, and where none does no batch is given up
-pub record RiseFits (kind : EventKind) (choice : Choice) (o : model_frame.Outcome BatchContent) :
+pub record RiseFits (kind : EventKind) (choice : Choice) (o : model_frame.Outcome Edits) :
     Type 0
   where
     pub rises : choice.rises ≡ true → HasRaised kind choice o
     pub rests : choice.rises ≡ false → choice.gives_up ≡ 0
 
 -- what was chosen fits the event and its outcome, after these frames
-pub record ChoiceFits (frames : List (model_frame.Message BatchContent)) (event : EventContent)
-    (choice : Choice) (o : model_frame.Outcome BatchContent) : Type 0
+pub record ChoiceFits (frames : List (model_frame.Message Edits)) (event : EventContent)
+    (choice : Choice) (o : model_frame.Outcome Edits) : Type 0
   where
     -- a node stops by itself for its device or for memory alone
     pub cause : o.stopped ≡ true →

@@ -1,7 +1,7 @@
 -- Fresh reads: what the last configuration's tail shows, beside all lines before it.
 use Rattle.std.specs.Prelude.{◌≡◌, ◌⊎◌, ℕ, suc, ◌≤◌, List, [], ◌∷◌, ◌++◌, length, take, None}
 use Rattle.std.specs.Prelude.{true, All}
-use Rattle.kv_types.specs.{BatchContent, Span}
+use Rattle.kv_types.specs.{Edits, Span}
 use Rattle.configurations.specs.{Configurations, is_tail, last_of}
 use Rattle.chain_model.specs as model
 use Rattle.chain_model.specs.Freshness.{ReadsFresh}
@@ -54,7 +54,7 @@ ReadsLatest kind t =
 
 -- In this state of the model an event reads without a number at node t, which is the tail of the
 -- last configuration, and its machine is at that epoch.
-pub record IsTailRead (cs : Configurations) (w : model.SystemState BatchContent) (kind : EventKind)
+pub record IsTailRead (cs : Configurations) (w : model.SystemState Edits) (kind : EventKind)
     (t : ℕ) : Type 0 where
   pub reads : ReadsLatest kind t
   pub tail : is_tail (last_of cs) t ≡ true
@@ -63,7 +63,7 @@ pub record IsTailRead (cs : Configurations) (w : model.SystemState BatchContent)
 -- The values and pages that such reads show are fresh: those of the events from place i on, which
 -- have these lines, behind the lines of the events before.
 abbrev pub AreFresh : Configurations → ℕ → List EventContent → List Choice
-    → model.SystemState BatchContent
+    → model.SystemState Edits
     → (earlier steps : List (List Line)) → Type 0
 AreFresh cs i [] choices w earlier steps = Unit {0}
 AreFresh cs i (event ∷ events) [] w earlier steps = ⊥

@@ -14,7 +14,7 @@ pub mod Freshness
 pub mod Runs
 pub mod History
 pub mod Worlds
-pub mod FaultMarks
+pub mod FaultIncidents
 pub mod LinesSoFar
 pub use Rattle.configurations.specs.NodeLists
 pub use Rattle.configurations.specs.Configs

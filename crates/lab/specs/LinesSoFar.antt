@@ -323,7 +323,7 @@ module _ {D C : Type 0} {g : Ghosts D} where
   pub record HasPartlyKept (old new : World D C g) (lines : List Line) : Type 0 where
     pub kept : (new.steps.items ≡ old.steps.items)
         ⊎ (new.steps.items ≡ old.steps.items ++ lines ∷ [])
-    pub marked : new.lost.items ≡ old.lost.items
+    pub noted : new.lost.items ≡ old.lost.items
     pub others : new ≡ record old { lost = new.lost; steps = new.steps }
 
 -- A world ran these events, one after another, and each step of it is as in any world.

@@ -1,12 +1,12 @@
 -- The outcomes of a simulated node: the state that each input leaves, and its disk.
 use Rattle.std.specs.Prelude.{◌≡◌, ◌⊎◌, ℕ, List, [], ◌∷◌, length, Option}
 use Rattle.std.specs.Prelude.{Bool, Some, None, IsSome, true, false}
-use Rattle.kv_types.specs.{BatchContent}
+use Rattle.kv_types.specs.{Edits}
 use Rattle.disk.specs.{IsEnvironmental}
 use Rattle.disk.specs.declared.disk.Disk.{Ghosts}
 use Rattle.disk.specs.declared.Fault.{Fault}
 use Rattle.disk.specs.declared.Junk.{Junk}
-use Rattle.disk.specs.{RisesByOne, CrashOutcome, IsLastLeft, Marks, State, struck_call}
+use Rattle.disk.specs.{CrashOutcome, Incidents, IsLastLeft, RisesByOne, State, struck_call}
 use Rattle.chain_model.specs.{Answer, dropped_for, refused, silent, started, stopped}
 use Rattle.chain_model.specs.Rules.{tend}
 use Rattle.engine.specs.Tended.{Tended}
@@ -29,14 +29,14 @@ use Rattle.lab.specs.declared.input.StepOutcome.{StepOutcome}
 use Rattle.lab.specs.declared.input.StepOutcome.TheVariants as done
 use Rattle.lab.specs.declared.node_state.NodeState.{NodeState}
 use Rattle.lab.specs.declared.node_state.NodeState.TheVariants.{Up, Down}
-use Rattle.lab.specs.Disks.{IsCrashOf, IsMarkedBy, before_crash, has_reached, junk_at_end}
+use Rattle.lab.specs.Disks.{HasIncidentsOf, IsCrashOf, before_crash, has_reached, junk_at_end}
 use Rattle.lab.specs.Events.{line_cause}
 use Rattle.lab.specs.SimNodes.{StateRefines, IsDown, disk_in}
 
 -- ---- what a node answers
 
 -- the answer of a node that is down: a client is refused, all else is dropped
-abbrev pub down_answer : Machine → Input → Answer BatchContent
+abbrev pub down_answer : Machine → Input → Answer Edits
 down_answer n (input.Submit i batch) = refused n i refusal.NotRunning
 down_answer n (input.Get i key at) = refused n i refusal.NotRunning
 down_answer n (input.Rows i range at) = refused n i refusal.NotRunning
@@ -48,7 +48,7 @@ down_answer n (input.Notice epoch ids) = dropped_for n reason.NotRunning
 down_answer n input.Tick = dropped_for n reason.NotRunning
 
 -- the output has the drop, the frames and the replies of this answer of the machine
-pub record IsAnswer (inp : Input) (a : Answer BatchContent) (output : Output) : Type 0 where
+pub record IsAnswer (inp : Input) (a : Answer Edits) (output : Output) : Type 0 where
   pub dropped : output.dropped ≡ a.dropped
   pub frames : AreFrames output.frames a.frames
   pub replied : output.replies ≡ replies_of inp a.replies
@@ -138,7 +138,7 @@ rises_in x n (Down disk) = false
 
 -- the answer of machine n to a tend, by the facts that its node tells now
 abbrev pub tended_in : {D : Type 0} {g : Ghosts D} → ℕ → Machine → NodeState D g
-    → Answer BatchContent
+    → Answer Edits
 tended_in x n (Up node) = answer_to_tend x n (facts_of (engine_of node.value))
 tended_in x n (Down disk) = silent n
 
@@ -271,21 +271,21 @@ DiskFits state failures past junk fault struck (done.Stopped (Some cause)) old n
     IsDown new
     × DiskEnds state failures past (junk_at_end fault struck) struck cause old (disk_in new)
 
--- ---- the marks behind an outcome
+-- ---- the incidents behind an outcome
 
--- the marks of the disk behind an outcome: a node that is down, or that dropped its input, may have
--- the very disk
-abbrev pub MarksFit : {D : Type 0} {g : Ghosts D} → (D → State) → (D → List State) → (D → Marks)
-    → Option Junk → Fault → Bool → StepOutcome → D → NodeState D g → Type 0
-MarksFit state past marks junk fault struck (done.Answered output) old new =
-    IsMarkedBy state past marks (IsDown new ⊎ IsSome output.dropped) junk fault struck false old
-    (disk_in new)
-MarksFit state past marks junk fault struck (done.Tended answer) old new =
-    IsMarkedBy state past marks ⊥ junk fault struck false old (disk_in new)
-MarksFit state past marks junk fault struck (done.Started epoch count committed) old new =
-    IsMarkedBy state past marks ⊥ junk fault struck false old (disk_in new)
-MarksFit state past marks junk fault struck (done.Stopped cause) old new =
-    IsMarkedBy state past marks ⊥ junk fault struck true old (disk_in new)
+-- the incidents of the disk behind an outcome: a node that is down, or that dropped its input, may
+-- have the very disk
+abbrev pub IncidentsFit : {D : Type 0} {g : Ghosts D} → (D → State) → (D → List State)
+    → (D → Incidents) → Option Junk → Fault → Bool → StepOutcome → D → NodeState D g → Type 0
+IncidentsFit state past incidents junk fault struck (done.Answered output) old new =
+    HasIncidentsOf state past incidents (IsDown new ⊎ IsSome output.dropped) junk fault struck false
+    old (disk_in new)
+IncidentsFit state past incidents junk fault struck (done.Tended answer) old new =
+    HasIncidentsOf state past incidents ⊥ junk fault struck false old (disk_in new)
+IncidentsFit state past incidents junk fault struck (done.Started epoch count committed) old new =
+    HasIncidentsOf state past incidents ⊥ junk fault struck false old (disk_in new)
+IncidentsFit state past incidents junk fault struck (done.Stopped cause) old new =
+    HasIncidentsOf state past incidents ⊥ junk fault struck true old (disk_in new)
 
 -- ---- the state behind an input, whatever the machine
 

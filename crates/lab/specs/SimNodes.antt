@@ -2,7 +2,7 @@
 use Rattle.std.specs.Global.{Box}
 use Rattle.std.specs.Prelude.{◌≡◌, ℕ, All, Bool, List, None, false, true}
 use Rattle.kv_types.specs.declared.Limits.{Limits}
-use Rattle.disk.specs.{IsReliable, Marks, Slots, State, fault_of, past_states, state_of}
+use Rattle.disk.specs.{Incidents, IsReliable, Slots, State, fault_of, past_states, state_of}
 use Rattle.disk.specs.declared.disk.Disk.{Ghosts}
 use Rattle.chain_model.specs as model
 use Rattle.engine.specs.Tended.{Tended}
@@ -74,7 +74,7 @@ Arrives loses choices = (loses → ⊥) → All HasArrived choices
 
 -- a disk is armed with no fault
 abbrev pub IsUnarmed : {D : Type 0} → Ghosts D → D → Type 0
-IsUnarmed g disk = fault_of (g.marks disk) ≡ None
+IsUnarmed g disk = fault_of (g.incidents disk) ≡ None
 
 -- ---- a disk in memory
 
@@ -83,8 +83,8 @@ abbrev pub state : Slots → State
 state disk = state_of disk.slots
 
 -- the faults that it was armed with, and its crashes
-abbrev pub marks : Slots → Marks
-marks disk = disk.marks
+abbrev pub incidents : Slots → Incidents
+incidents disk = disk.incidents
 
 -- what it is as a disk
 abbrev pub in_memory : Ghosts Slots
@@ -94,6 +94,6 @@ in_memory = record {
   failures = λ disk. disk.failures;
   is_reliable = IsReliable;
   past = past_states;
-  marks = marks;
+  incidents = incidents;
   allocates = ⊥;
 }

@@ -1,11 +1,11 @@
 -- How a node stops, and what it leaves of its disk.
 use Rattle.std.specs.Prelude.{◌≡◌, ◌↔◌, ◌⊎◌, ◌∷◌, ℕ, Bool, None, length, true}
 use Rattle.kv_types.specs.declared.Limits.{Limits}
-use Rattle.kv_types.specs.{BatchContent}
+use Rattle.kv_types.specs.{Edits}
 use Rattle.disk.specs.declared.disk.Disk.{Ghosts}
 use Rattle.disk.specs.declared.Fault.{Fault}
 use Rattle.disk.specs.declared.Junk.{Junk}
-use Rattle.disk.specs.declared.Mark.TheVariants.{Crashed}
+use Rattle.disk.specs.declared.Incident.TheVariants.{Crashed}
 use Rattle.disk.specs.{HasStruck, IsLastLeft, fault_of}
 use Rattle.chain_model.specs.{Answer, stopped}
 use Rattle.chain_core.specs.{Machine}
@@ -14,7 +14,7 @@ use Rattle.node.specs.{StopRefines}
 use Rattle.lab.specs.declared.input.StepOutcome.{StepOutcome}
 use Rattle.lab.specs.declared.input.StepOutcome.TheVariants as done
 use Rattle.lab.specs.declared.node_state.NodeState.{NodeState}
-use Rattle.lab.specs.Disks.{IsMarkedSo, junk_at_end}
+use Rattle.lab.specs.Disks.{HasIncidents, junk_at_end}
 use Rattle.lab.specs.Events.{line_cause}
 use Rattle.lab.specs.Outcomes.{HasCrashed}
 use Rattle.lab.specs.SimNodes.{IsDown, StateHasLimits, StateIsReady, StateRefines, disk_in}
@@ -25,12 +25,12 @@ module _ {D : Type 0} (g : Ghosts D) (disk : D) where
     pub ready : StateIsReady new
     pub is : IsDown new
     pub crashes : g.is_honest disk → HasCrashed g.state g.failures g.past junk disk new
-    pub refines : (x : ℕ) (n : Machine) (a : Answer BatchContent) → g.is_honest disk →
+    pub refines : (x : ℕ) (n : Machine) (a : Answer Edits) → g.is_honest disk →
         StopRefines (g.state disk) x n a → StateRefines g.is_honest g.state new x (stopped n)
         ⊎ StateRefines g.is_honest g.state new x (stopped a.node)
-    pub marked : g.is_honest disk → IsMarkedSo g.state g.past g.marks
-        ((length (g.past disk), Crashed junk) ∷ g.marks disk) (disk_in new)
-    pub forgets : g.is_honest disk → fault_of (g.marks (disk_in new)) ≡ None
+    pub occurred : g.is_honest disk → HasIncidents g.state g.past g.incidents
+        ((length (g.past disk), Crashed junk) ∷ g.incidents disk) (disk_in new)
+    pub forgets : g.is_honest disk → fault_of (g.incidents (disk_in new)) ≡ None
     pub limits : (limits : Limits) → StateHasLimits new limits
     -- a crash is no failure, whatever the disk
     pub count : g.failures (disk_in new) ≡ g.failures disk
@@ -40,7 +40,7 @@ module _ {D : Type 0} (g : Ghosts D) (disk : D) where
   pub record StopsWithDisk (stop : Cause) (fault : Fault) (new : NodeState D g) (did : StepOutcome)
       : Type 0 where
     pub struck : Bool
-    pub strikes : (struck ≡ true) ↔ HasStruck g.marks g.past disk
+    pub strikes : (struck ≡ true) ↔ HasStruck g.incidents g.past disk
     pub told : did ≡ done.Stopped (line_cause fault struck stop)
     pub down : IsDownAfter (junk_at_end fault struck) new
     pub last : g.is_honest disk → IsLastLeft (g.past disk) (g.state disk)

@@ -1,6 +1,6 @@
 -- Events and the lines of each, as a run of the model by what was chosen in each.
 use Rattle.std.specs.Prelude.{◌≡◌, ℕ, suc, List, [], ◌∷◌, length}
-use Rattle.kv_types.specs.{BatchContent}
+use Rattle.kv_types.specs.{Edits}
 use Rattle.configurations.specs.{Configurations}
 use Rattle.chain_model.specs as model
 use Rattle.events.specs.declared.EventContent.{EventContent}
@@ -10,7 +10,7 @@ use Rattle.lab.specs.SimNodes.{Choice}
 
 -- the events from place i on, as the model has them, by what was chosen in each
 abbrev pub modelled_from : ℕ → List EventContent → List Choice
-    → List (model.SystemEvent BatchContent)
+    → List (model.SystemEvent Edits)
 modelled_from i [] choices = []
 modelled_from i (event ∷ events) [] = []
 modelled_from i (event ∷ events) (choice ∷ choices) =
@@ -18,7 +18,7 @@ modelled_from i (event ∷ events) (choice ∷ choices) =
 
 -- the lines of each of them, from a world on
 abbrev pub lines_from : Configurations → ℕ → List EventContent → List Choice → model.SystemState
-    BatchContent
+    Edits
     → List (List Line)
 lines_from cs i [] choices w = []
 lines_from cs i (event ∷ events) [] w = []
@@ -29,7 +29,7 @@ lines_from cs i (event ∷ events) (choice ∷ choices) w =
 
 -- what was chosen fits each of them, from a world on
 abbrev pub AllFit : Configurations → ℕ → List EventContent → List Choice
-    → model.SystemState BatchContent
+    → model.SystemState Edits
     → Type 0
 AllFit cs i [] choices w = Unit {0}
 AllFit cs i (event ∷ events) [] w = ⊥

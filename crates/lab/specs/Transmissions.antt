@@ -1,6 +1,6 @@
 -- What an event asks of the carrier: a request or a frame, and then the replies of its node.
 use Rattle.std.specs.Prelude.{ℕ, List, [], ◌∷◌, ◌++◌, length, Option, Some, None, Bool, not}
-use Rattle.kv_types.specs.{BatchContent, place}
+use Rattle.kv_types.specs.{Edits, place}
 use Rattle.chain_model.specs as model_frame
 use Rattle.link_messages.specs.declared.Frame.{Frame}
 use Rattle.link_messages.specs.declared.Frame.TheVariants as frame
@@ -66,7 +66,7 @@ replies_from (Some at) told lines = replies_sent at.0 told lines
 -- or frame, lost as it was chosen, and then each reply that its node gave, lost where the client
 -- was not told.
 abbrev pub transmissions_of : List Posted → ℕ → EventContent → Choice
-    → model_frame.Outcome BatchContent
+    → model_frame.Outcome Edits
     → List Transmission
 transmissions_of posted i event choice o =
     frame_sent posted i event.kind (unless_lost choice.lost)

@@ -5,7 +5,7 @@ use Rattle.std.specs.Prelude.{Bool, MatchOption, Option, Some, None}
 use Rattle.std.specs.Prelude.{All, true, false, ◌≢◌, ◌<◌, get_or, slice_index, slice_set}
 use Rattle.std.specs.List.{AllZip, HoldsAt}
 use Rattle.kv_types.specs.declared.Limits.{Limits}
-use Rattle.kv_types.specs.{BatchContent}
+use Rattle.kv_types.specs.{Edits}
 use Rattle.configurations.specs.{Configurations, Lawful, at_epoch}
 use Rattle.chain_model.specs as model_frame
 use Rattle.disk.specs.declared.Fault.{Fault}
@@ -70,7 +70,7 @@ frames_in_steps [] = 0
 frames_in_steps (step ∷ steps) = frames_of_step step + frames_in_steps steps
 
 -- a posted frame refines one of the model: it has its addressee and its bytes
-pub record PostedRefines (posted : Posted) (frame : model_frame.Message BatchContent) : Type 0 where
+pub record PostedRefines (posted : Posted) (frame : model_frame.Message Edits) : Type 0 where
   pub it : Frame
   pub same : frame_as posted.to it ≡ Some frame
   pub lawful : IsFrame it
@@ -101,7 +101,7 @@ extended run event choice lines = record {
 }
 
 -- the outcome of an event in the model, behind a run
-abbrev pub outcome_after : WorldRun → EventContent → Choice → model_frame.Outcome BatchContent
+abbrev pub outcome_after : WorldRun → EventContent → Choice → model_frame.Outcome Edits
 outcome_after run event choice = model_frame.outcome
     (model_frame.reached run.configs (modelled_from 1 run.events run.choices)) run.configs
     (modelled (suc (length run.events)) event.kind choice)
@@ -131,7 +131,7 @@ module _ {D : Type 0} {g : Ghosts D} where
   pub record IsCreated (config : List ℕ) (sim : SimNode D g) : Type 0 where
     pub is : StateRefines g.is_honest g.state sim.state sim.id (model_frame.created config)
     pub count : g.failures (disk_in sim.state) ≡ 0
-    pub marked : IsNewDisk g (disk_in sim.state)
+    pub occurred : IsNewDisk g (disk_in sim.state)
 
   -- each of these nodes that is up has these limits
   abbrev pub HaveLimits : List (SimNode D g) → Limits → Type 0
@@ -186,7 +186,7 @@ module _ {D : Type 0} {g : Ghosts D} where
   -- An event acted on node x, which is machine n after it, and the disk that the node has follows
   -- from the one that it had. Every other node is as it was.
   pub record HasActedOn (event : EventContent) (choice : Choice)
-      (o : model_frame.Outcome BatchContent)
+      (o : model_frame.Outcome Edits)
       (x : ℕ) (n : Machine) (old new : List (SimNode D g)) : Type 0 where
     pub index : ℕ
     pub at : IsIndexOf old index x
@@ -206,7 +206,7 @@ module _ {D : Type 0} {g : Ghosts D} where
 
   -- the nodes follow from those before, by the node that the event acted on
   abbrev pub NodesFollow : Option (ℕ × Machine) → EventContent → Choice
-      → model_frame.Outcome BatchContent
+      → model_frame.Outcome Edits
       → List (SimNode D g) → List (SimNode D g) → Type 0
   NodesFollow None event choice o old new = new ≡ old
   NodesFollow (Some at) event choice o old new = HasActedOn event choice o at.0 at.1 old new
@@ -247,7 +247,7 @@ module _ {D : Type 0} {g : Ghosts D} where
   -- the model on. Behind each of them those that are up have these limits, and all refine their
   -- machines.
   abbrev pub AllNodesFollow : Configurations → Limits → ℕ → List EventContent → List Choice
-      → model_frame.SystemState BatchContent → List (SimNode D g) → List (SimNode D g) → Type 0
+      → model_frame.SystemState Edits → List (SimNode D g) → List (SimNode D g) → Type 0
   AllNodesFollow cs limits i [] choices w old new = new ≡ old
   AllNodesFollow cs limits i (event ∷ events) [] w old new = ⊥
   AllNodesFollow cs limits i (event ∷ events) (choice ∷ choices) w old new =
@@ -287,7 +287,7 @@ module _ {D C : Type 0} {g : Ghosts D} where
   -- is as it was otherwise.
   pub record HasKept (old new : World D C g) (lost : Bool) (lines : List Line) : Type 0 where
     pub kept : new.steps.items ≡ old.steps.items ++ lines ∷ []
-    pub marked : new.lost.items ≡ old.lost.items ++ lost ∷ []
+    pub noted : new.lost.items ≡ old.lost.items ++ lost ∷ []
     pub others : new ≡ record old { lost = new.lost; steps = new.steps; ended = false }
 
   -- the world starts nodes with these limits, and each of its nodes that is up has them

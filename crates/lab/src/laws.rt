@@ -1,5 +1,5 @@
 //! Laws of runs. Each function does nothing: its contract is the law.
-ghost use Rattle.lab.specs.FaultMarks.{FaultsAreDetermined, StopsAreDetermined};
+ghost use Rattle.lab.specs.FaultIncidents.{FaultsAreDetermined, StopsAreDetermined};
 
 /// The last disks of a run tell the faults of its events.
 pub fn faults_are_determined()

@@ -27,10 +27,12 @@ use crate::sim_node::SimNode;
 use crate::trace::trace_of;
 use crate::{Carrier, Direct, Event, LabError};
 use carriers::{Delivery, NodeInput};
-use chain_model::{in_order, keeps_enough, one_history, reads_fresh, run_is_outcomes};
+use chain_model::{
+    exactly_once, in_order, keeps_enough, one_history, reads_fresh, run_is_outcomes,
+};
 use configurations::{Config, Configs, NodeId};
 use disk::{Crash, Disk, Fault, MemDisk};
-use kv_types::{Batch, Limits, Number};
+use kv_types::{Limits, Number};
 use link_messages::laws::one_spelling;
 use node::{Node, Numbers, Stop};
 use std::alloc::{AllocError, Global};
@@ -199,11 +201,12 @@ impl<C: Carrier + Drop> World<MemDisk, C> {
         }
         let nodes = left_of_all(alloc, nodes)?;
         // laws: reads at the last tail are fresh, and nothing is given up that may be needed
-        reads_fresh::<Batch>();
-        keeps_enough::<Batch>();
-        // laws: a run of the model has one history, and is made of its outcomes
-        one_history::<Batch>();
-        run_is_outcomes::<Batch>();
+        reads_fresh();
+        keeps_enough();
+        // laws: a run of the model has one history with each mark once, and is made of its outcomes
+        one_history();
+        exactly_once();
+        run_is_outcomes();
         // law: the page as a function is the page of a map
         kv_types::laws::pages_agree();
         Ok(Report { steps, nodes })
@@ -305,11 +308,13 @@ impl<D: Disk + Drop, C: Carrier + Drop> World<D, C> {
             HasHistory self.now run }
     {
         // laws: reads at the last tail are fresh, nothing that may be needed is given up, a run has
-        // one history and is made of its outcomes, a page is of a map, a node's disk represents it
-        reads_fresh::<Batch>();
-        keeps_enough::<Batch>();
-        one_history::<Batch>();
-        run_is_outcomes::<Batch>();
+        // one history with each mark once and is made of its outcomes, a page is of a map, a node's
+        // disk represents it
+        reads_fresh();
+        keeps_enough();
+        one_history();
+        exactly_once();
+        run_is_outcomes();
         kv_types::laws::pages_agree();
         node::laws::disks_represent::<D>();
         &self.steps
@@ -362,7 +367,7 @@ impl<D: Crash + Drop, C: Carrier + Drop> World<D, C> {
             return Err(LabError::Memory);
         };
         // laws: in every run of the model frames are in order, and no two have one spelling
-        in_order::<Batch>();
+        in_order();
         one_spelling();
         let (id, input) = match delivery_of(
             alloc,

@@ -8,8 +8,8 @@ use Rattle.std.specs.Prelude.{IsSomeAnd, option_map}
 use Rattle.std.specs.Int.{w8, w16, w32, w64}
 use Rattle.std.proofs.lemmas.Bool.{leb-true, le-leb}
 use Rattle.configurations.specs.{IsConfig, TestDecidesConfig, is_config, config_text, IsId}
-use Rattle.kv_types.specs.declared.bounds.TheConstants.{MAX_KEY, MAX_VALUE, MAX_ROWS, MAX_PAGE}
-use Rattle.kv_types.specs.declared.bounds.TheConstants.{MAX_NUMBER}
+use Rattle.byte_fields.specs.declared.stored_key.TheConstants.{MAX_KEY}
+use Rattle.kv_types.specs.declared.bounds.TheConstants.{MAX_VALUE, MAX_ROWS, MAX_PAGE, MAX_NUMBER}
 use Rattle.kv_types.specs.{IsBatch, batch_bytes as batch_text, row_size, batch_at}
 use Rattle.byte_fields.specs.{text_bytes, ◌>>=◌, text_at, only, number_at}
 use Rattle.byte_fields.specs.FieldsLemmas.{IsBytes, bind_some, some_is}
@@ -190,7 +190,9 @@ code_of (suc (suc (suc (suc (suc (suc (suc zero))))))) r e = ap refusal_number
     (is_refusal _ _ (sym e))
 code_of (suc (suc (suc (suc (suc (suc (suc (suc zero)))))))) r e =
     ap refusal_number (is_refusal _ _ (sym e))
-code_of (suc (suc (suc (suc (suc (suc (suc (suc (suc n))))))))) r e = absurd cc
+code_of (suc (suc (suc (suc (suc (suc (suc (suc (suc zero))))))))) r e =
+    ap refusal_number (is_refusal _ _ (sym e))
+code_of (suc (suc (suc (suc (suc (suc (suc (suc (suc (suc n)))))))))) r e = absurd cc
 
 refusal_of_code : (refusal : Refusal) → refusal_of (refusal_number refusal) ≡ Some refusal
 refusal_of_code refused.NotRunning = refl
@@ -201,6 +203,7 @@ refusal_of_code refused.NoSuchSnapshot = refl
 refusal_of_code refused.TooManySnapshots = refl
 refusal_of_code refused.Removed = refl
 refusal_of_code refused.Exhausted = refl
+refusal_of_code refused.OldRequest = refl
 
 small_code : (refusal : Refusal) → refusal_number refusal < 256
 small_code refused.NotRunning = omega arith
@@ -211,6 +214,7 @@ small_code refused.NoSuchSnapshot = omega arith
 small_code refused.TooManySnapshots = omega arith
 small_code refused.Removed = omega arith
 small_code refused.Exhausted = omega arith
+small_code refused.OldRequest = omega arith
 
 pub refusal_reads : Reads (λ refusal. Unit {0}) (λ refusal. u8 (refusal_number refusal)) refusal_at
 unfolding refusal_at

@@ -5,10 +5,10 @@ use Rattle.std.specs.List.{flat_map, sum_by}
 use Rattle.std.proofs.lemmas.List.{length-append}
 use Rattle.std.proofs.lemmas.List.Concat.{flat_map-cons}
 use Rattle.std.proofs.lemmas.List.Sums.{sum_by-cons}
-use Rattle.kv_types.specs.{Row}
-use Rattle.kv_types.specs.{row_size, Span, Rows}
+use Rattle.byte_fields.specs.declared.stored_key.TheConstants.{MAX_KEY}
+use Rattle.kv_types.specs.{Row, row_size, Span, Rows}
 use Rattle.byte_fields.specs.{text_bytes}
-use Rattle.kv_types.specs.declared.bounds.TheConstants.{MAX_KEY, MAX_VALUE, MAX_PAGE}
+use Rattle.kv_types.specs.declared.bounds.TheConstants.{MAX_VALUE, MAX_PAGE}
 use Rattle.link_messages.specs.declared.frame.Frame.TheVariants as frame
 use Rattle.link_messages.specs.Spelling.{u16, u32, row_text}
 use Rattle.link_messages.specs.Spelling.{truth, optional, at_text, range_text, page_text, IsRange}

@@ -5,3 +5,4 @@ pub mod FrameLaws
 pub mod FrameLengths
 pub mod Contents
 pub mod Streams
+pub mod Written

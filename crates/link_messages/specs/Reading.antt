@@ -7,10 +7,9 @@ use Rattle.std.specs.List.{sum_by}
 use Rattle.std.specs.Int.{w8, w16, w32, w64}
 use Rattle.byte_fields.specs.{Reader, both, mapped, only, counted, number_at, ◌>>=◌, text_at}
 use Rattle.configurations.specs.{is_config}
-use Rattle.kv_types.specs.declared.bounds.TheConstants.{MAX_KEY, MAX_VALUE, MAX_ROWS, MAX_PAGE}
-use Rattle.kv_types.specs.declared.bounds.TheConstants.{MAX_NUMBER}
-use Rattle.kv_types.specs.{Row}
-use Rattle.kv_types.specs.{Span, Rows, row_size, batch_at}
+use Rattle.byte_fields.specs.declared.stored_key.TheConstants.{MAX_KEY}
+use Rattle.kv_types.specs.declared.bounds.TheConstants.{MAX_VALUE, MAX_ROWS, MAX_PAGE, MAX_NUMBER}
+use Rattle.kv_types.specs.{Row, Span, Rows, row_size, batch_at}
 use Rattle.chain_model.specs.declared.Refusal.{Refusal}
 use Rattle.chain_model.specs.declared.Refusal.TheVariants as refused
 use Rattle.link_messages.specs.declared.frame.Frame.{Frame}
@@ -112,7 +111,8 @@ refusal_of (suc (suc (suc (suc (suc zero))))) = Some refused.NoSuchSnapshot
 refusal_of (suc (suc (suc (suc (suc (suc zero)))))) = Some refused.TooManySnapshots
 refusal_of (suc (suc (suc (suc (suc (suc (suc zero))))))) = Some refused.Removed
 refusal_of (suc (suc (suc (suc (suc (suc (suc (suc zero)))))))) = Some refused.Exhausted
-refusal_of (suc (suc (suc (suc (suc (suc (suc (suc (suc n))))))))) = None
+refusal_of (suc (suc (suc (suc (suc (suc (suc (suc (suc zero))))))))) = Some refused.OldRequest
+refusal_of (suc (suc (suc (suc (suc (suc (suc (suc (suc (suc n)))))))))) = None
 
 -- a refusal, by its code in one byte
 unfoldable pub refusal_at : Reader Refusal

@@ -4,10 +4,9 @@ use Rattle.std.specs.Prelude.{Some, None, IfSome, All}
 use Rattle.std.specs.List.{flat_map}
 use Rattle.std.specs.Int.{w8, w16, w32, w64, to_be_bytes}
 use Rattle.configurations.specs.{IsConfig, config_text, IsId}
-use Rattle.kv_types.specs.declared.bounds.TheConstants.{MAX_KEY, MAX_VALUE, MAX_ROWS, MAX_PAGE}
-use Rattle.kv_types.specs.declared.bounds.TheConstants.{MAX_NUMBER}
-use Rattle.kv_types.specs.{Row}
-use Rattle.kv_types.specs.{Span, Rows, IsBatch, batch_bytes as batch_text, KeepsLimits}
+use Rattle.byte_fields.specs.declared.stored_key.TheConstants.{MAX_KEY}
+use Rattle.kv_types.specs.declared.bounds.TheConstants.{MAX_VALUE, MAX_ROWS, MAX_PAGE, MAX_NUMBER}
+use Rattle.kv_types.specs.{Row, Span, Rows, IsBatch, batch_bytes as batch_text, KeepsLimits}
 use Rattle.byte_fields.specs.{text_bytes}
 use Rattle.chain_model.specs.declared.Refusal.{Refusal}
 use Rattle.chain_model.specs.declared.Refusal.TheVariants as refused
@@ -70,6 +69,7 @@ refusal_number refused.NoSuchSnapshot = 5
 refusal_number refused.TooManySnapshots = 6
 refusal_number refused.Removed = 7
 refusal_number refused.Exhausted = 8
+refusal_number refused.OldRequest = 9
 
 -- ---- frames
 

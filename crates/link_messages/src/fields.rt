@@ -1,7 +1,8 @@
 // The fields of frames, written as bytes and read from them.
 ghost use Rattle.std.specs.Prelude.{◌≡◌, ◌++◌, OnOk, IfOk, IfSome, option_copied, option_map};
 ghost use Rattle.configurations.specs.{IsId};
-ghost use Rattle.kv_types.specs.declared.bounds.TheConstants.{MAX_KEY, MAX_VALUE};
+ghost use Rattle.byte_fields.specs.declared.stored_key.TheConstants.{MAX_KEY};
+ghost use Rattle.kv_types.specs.declared.bounds.TheConstants.{MAX_VALUE};
 ghost use Rattle.kv_types.specs.{batch_at};
 ghost use Rattle.byte_fields.specs.{text_bytes, text_at};
 ghost use Rattle.link_messages.specs.Spelling.{u16, u32, u64, optional, at_text};

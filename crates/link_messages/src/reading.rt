@@ -27,6 +27,7 @@ fn refusal_of(bytes: &mut &[u8]) -> Result<Refusal, FrameError>
         6 => Ok(Refusal::TooManySnapshots),
         7 => Ok(Refusal::Removed),
         8 => Ok(Refusal::Exhausted),
+        9 => Ok(Refusal::OldRequest),
         _ => Err(FrameError::BadField),
     }
 }

@@ -20,7 +20,7 @@ fn put_row(out: &mut Vec<u8>, row: &Row) -> Result<(), AllocError>
     ensures spelled { OnOk result (out.new.items ≡ out.old.items ++ row_text row.now) }
     ensures is { OnOk result (IsRow row.now) }
 {
-    put_text(out, row.key().as_bytes())?;
+    put_text(out, row.key())?;
     put_text(out, row.value())
 }
 
@@ -51,7 +51,7 @@ fn row_of(alloc: Global, bytes: &mut &[u8]) -> Result<Row, FrameError>
 {
     let key = key_of(alloc, bytes)?;
     let value = value_of(alloc, bytes)?;
-    Ok(Row::new(alloc, key.lent(), value.as_bytes())?)
+    Ok(Row::new(alloc, key.as_bytes(), value.as_bytes())?)
 }
 
 fn rows_in(alloc: Global, count: u16, bytes: &mut &[u8]) -> Result<Vec<Row>, FrameError>

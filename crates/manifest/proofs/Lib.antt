@@ -5,6 +5,8 @@ pub mod Shortened
 pub mod Begun
 pub mod Kept
 pub mod Edited
+pub mod Slots
+pub mod Counting
 pub mod Heads
 pub mod VersionIsOne
 pub mod Opened

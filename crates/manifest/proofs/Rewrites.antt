@@ -4,9 +4,8 @@ use Rattle.std.proofs.Common.{drop}
 use Rattle.std.proofs.Common.{Option, Some, None, refl, sym, ap, subst, ◌∙◌, inl, inr, arith}
 use Rattle.std.proofs.Common.{append_assoc, append-nil}
 use Rattle.std.specs.Prelude.{IsSomeAnd, ◌⊎◌}
-use Rattle.std.specs.Int.{w16, w32, w64, to_be_bytes}
-use Rattle.std.proofs.lemmas.List.{take-append-le, take-append-drop, length-take}
-use Rattle.std.proofs.Common.{Bool, true, length-append}
+use Rattle.std.specs.Int.{w32, to_be_bytes}
+use Rattle.std.proofs.Common.{Bool, true}
 use Rattle.manifest.specs.Replace.{HasGate}
 use Rattle.kv_types.specs.declared.bounds.TheConstants.{MAX_NUMBER}
 use Rattle.disk.specs.{Slot, State, Contents, IsFileOutcome, IsCrashOutcome}
@@ -23,32 +22,12 @@ use Rattle.manifest.specs.Slots.{SlotsAreLeft}
 use Rattle.manifest.specs.Holds.{SlotsHold, slot_behind}
 use Rattle.manifest.proofs.Replaces.{OnTheWay}
 use Rattle.manifest.proofs.Records.{other_one, others_differ}
+use Rattle.manifest.proofs.Slots.{open_gate, yields_more}
 
 -- the other of the other slot
 other_back : (slot : ℕ) → IsSlotFile slot → other_slot (other_slot slot) ≡ slot
 other_back slot (inl one) = omega (arith, one)
 other_back slot (inr two) = omega (arith, two)
-
--- a head has 11 bytes
-head_size : (generation id : ℕ) → length (slot_head generation id) ≡ head_length
-head_size generation id = refl
-
--- with more bytes behind it, a slot that yields yields
-yields_more : (generation : ℕ) (bytes rest : List ℕ) → IsSuperseded generation bytes
-    → IsSuperseded generation (bytes ++ rest)
-yields_more generation bytes rest (inl shut) =
-    inl (shut.0, shut.1 ++ rest, shut.2, ap (λ (b : List ℕ). b ++ rest) shut.3)
-yields_more generation bytes rest (inr open_slot) =
-    let size : length (take head_length bytes) ≡ head_length =
-    ap length open_slot.2 ∙ head_size open_slot.0 open_slot.1 in
-    let long : head_length ≤ length bytes =
-    omega (arith, size, length-take head_length bytes) in
-    inr (
-      open_slot.0,
-      open_slot.1,
-      take-append-le head_length bytes rest long ∙ open_slot.2,
-      open_slot.3,
-    )
 
 -- the new slot, with the gate open
 pub new_slot : (generation id : ℕ) (one rest : List ℕ) → length one < 2 ^ 32
@@ -94,7 +73,7 @@ module _ (disk : State) (slots : SlotPair) (id : ℕ) (records : List (List ℕ)
       subst (λ (s : ℕ). Represents (drop s h.log.bytes) records) h.at.from h.log.stands in
       let stays : Stays h.log.bytes = record {
         slot = record { head = h.head; log = log };
-        yields = inr (slots.generation, id, h.head, omega arith);
+        yields = inr (slots.generation, omega arith, (id, inl h.head));
       } in
       sure_only Q h.log.bytes stays (left slots.slot)
       (subst (λ (slot : Slot). IsFileOutcome slot (left slots.slot)) sure now)
@@ -199,17 +178,6 @@ module _ (disk : State) (slots : SlotPair) (id : ℕ) (records : List (List ℕ)
         others = λ other apart. now other;
       })
 
-  -- the slot that counted, where the other counts now
-  shown : (bytes : List ℕ) → take head_length bytes ≡ slot_head slots.generation id
-      → HasGate true bytes
-  shown bytes head =
-      let rest = drop head_length bytes in
-      let tail = to_be_bytes w64 slots.generation ++ to_be_bytes w16 id in (
-        tail ++ rest,
-        sym (take-append-drop head_length bytes) ∙ ap (λ (f : List ℕ). f ++ rest) head,
-        omega (arith, length-append tail rest),
-      )
-
   -- after the last call the slots hold the record alone
   pub held_new : (new : State) (later : SlotPair) → later.slot ≡ other_slot slots.slot
       → later.generation ≡ next → later.id ≡ slots.id → later.other_is_open ≡ true
@@ -236,8 +204,9 @@ module _ (disk : State) (slots : SlotPair) (id : ℕ) (records : List (List ℕ)
         other_sure = subst (λ (n : ℕ). IsDurableAs new n h.log.bytes)
             (sym (ap other_slot s ∙ other_back slots.slot h.one)) (same ∙ old);
         other = subst (λ (n : ℕ). IsSuperseded n h.log.bytes) (sym g)
-            (inr (slots.generation, id, h.head, omega arith));
-        gate = subst (λ (b : Bool). HasGate b h.log.bytes) (sym o) (shown h.log.bytes h.head);
+            (inr (slots.generation, omega arith, (id, inl h.head)));
+        gate = subst (λ (b : Bool). HasGate b h.log.bytes) (sym o)
+            (open_gate slots.generation h.log.bytes (id, inl h.head));
       }
 
   -- what the log of the new slot stands for

@@ -1,36 +1,28 @@
 -- The slots represent one version at most.
-use Rattle.std.proofs.Common.{◌≡◌, ℕ, ◌<◌, ◌≤◌, List, [], ◌∷◌, take, drop, map, get_or}
-use Rattle.std.proofs.Common.{Option, Some, None, All, refl, sym, ap, subst, ◌∙◌, arith, inl, inr}
+use Rattle.std.proofs.Common.{◌≡◌, ℕ, ◌≤◌, List, [], ◌∷◌, drop, map}
+use Rattle.std.proofs.Common.{Option, Some, None, All, refl, sym, ap, subst, ◌∙◌, arith}
 use Rattle.std.specs.Prelude.{IsSomeAnd}
-use Rattle.std.specs.Int.{w16, w64, from_be_bytes, to_be_bytes}
-use Rattle.std.proofs.lemmas.Nat.{from_be_bytes-to_be_bytes_2, from_be_bytes-to_be_bytes_8}
+use Rattle.std.specs.Int.{w16, from_be_bytes, to_be_bytes}
+use Rattle.std.proofs.lemmas.Nat.{from_be_bytes-to_be_bytes_2}
 use Rattle.std.proofs.lemmas.List.Elements.{All-head, All-tail}
-use Rattle.kv_types.specs.declared.bounds.TheConstants.{MAX_NUMBER}
 use Rattle.configurations.specs.{IsId}
 use Rattle.disk.specs.{Contents}
 use Rattle.record_log.specs.{RecordsAreUnique}
 use Rattle.version_edits.specs.{StoreVersion, NodeVersion, Change, empty, after_all}
 use Rattle.version_edits.specs.{IsChange, ChangesDiffer, change_text}
 use Rattle.version_edits.specs.{HistoriesAreLawful, IsVersion}
-use Rattle.manifest.specs.Slots.{other_slot, head_length, slot_head, IsSlot, IsSuperseded}
-use Rattle.manifest.specs.Slots.{SlotsRepresent}
+use Rattle.manifest.specs.declared.head.SlotFormat.TheVariants as formats
+use Rattle.manifest.specs.Slots.{IsSlot, SlotsRepresent, head_length, slot_head}
 use Rattle.manifest.specs.Laws.{VersionIsOne, VersionsAreLawful}
+use Rattle.manifest.proofs.Counting.{counting_by, one_counts, represent_counts}
 
 -- ---- heads
-
-same_generation : (g h id other : ℕ) → g ≤ MAX_NUMBER → h ≤ MAX_NUMBER
-    → slot_head g id ≡ slot_head h other → g ≡ h
-same_generation g h id other small short same =
-    let e : from_be_bytes w64 (to_be_bytes w64 g) ≡ from_be_bytes w64 (to_be_bytes w64 h) =
-    ap (λ (l : List ℕ). from_be_bytes w64 (take 8 (drop 1 l))) same in
-    sym (from_be_bytes-to_be_bytes_8 g (omega (arith, small))) ∙ e
-    ∙ from_be_bytes-to_be_bytes_8 h (omega (arith, short))
 
 pub same_id : (g h id other : ℕ) → id ≤ 65535 → other ≤ 65535
     → slot_head g id ≡ slot_head h other → id ≡ other
 same_id g h id other is are same =
     let e : from_be_bytes w16 (to_be_bytes w16 id) ≡ from_be_bytes w16 (to_be_bytes w16 other) =
-    ap (λ (l : List ℕ). from_be_bytes w16 (drop 9 l)) same in
+    ap (λ (l : List ℕ). from_be_bytes w16 (drop 11 l)) same in
     sym (from_be_bytes-to_be_bytes_2 id (omega (arith, is))) ∙ e
     ∙ from_be_bytes-to_be_bytes_2 other (omega (arith, are))
 
@@ -45,67 +37,19 @@ same_slot unique (Some bytes) g h id other records others is are a b = (
   unique (drop head_length bytes) records others a.log b.log,
 )
 
--- an open slot that yields has the lesser generation
-pub below : (file : Option (List ℕ)) (g h id : ℕ) → g ≤ MAX_NUMBER → h ≤ MAX_NUMBER
-    → IsSomeAnd file (λ bytes. take head_length bytes ≡ slot_head h id)
-    → IsSomeAnd file (IsSuperseded g) → h < g
-below None g h id small short a b = absurd a
-below (Some bytes) g h id small short a (inl closed) =
-    let first : closed.0 ≡ 1 =
-    ap (λ (l : List ℕ). get_or l 0 0)
-    (sym (ap (λ (l : List ℕ). take head_length l) closed.3) ∙ a) in
-    absurd (closed.2 first)
-below (Some bytes) g h id small short a (inr lesser) =
-    let same : h ≡ lesser.0 =
-    same_generation h lesser.0 id lesser.1 short (omega (arith, small, lesser.3))
-    (sym a ∙ lesser.2) in
-    omega (arith, same, lesser.3)
-
--- a slot with records has a head
-pub head_is : (file : Option (List ℕ)) (g id : ℕ) (records : List (List ℕ))
-    → IsSomeAnd file (IsSlot g id records)
-    → IsSomeAnd file (λ bytes. take head_length bytes ≡ slot_head g id)
-head_is None g id records a = absurd a
-head_is (Some bytes) g id records a = a.head
-
--- two slots cannot both count
-not_both : (id other : ℕ) (records others : List (List ℕ)) (left : Contents)
-    → (a : SlotsRepresent id records left) → (b : SlotsRepresent other others left)
-    → a.slot ≡ other_slot b.slot → b.slot ≡ other_slot a.slot → ⊥
-not_both id other records others left a b at_a at_b =
-    let less : b.generation < a.generation =
-    below (left b.slot) a.generation b.generation other a.limit b.limit
-    (head_is (left b.slot) b.generation other others b.counting)
-    (subst (λ (f : ℕ). IsSomeAnd (left f) (IsSuperseded a.generation)) (sym at_b) a.other) in
-    let more : a.generation < b.generation =
-    below (left a.slot) b.generation a.generation id b.limit a.limit
-    (head_is (left a.slot) a.generation id records a.counting)
-    (subst (λ (f : ℕ). IsSomeAnd (left f) (IsSuperseded b.generation)) (sym at_a) b.other) in
-    omega (arith, less, more)
-
 pub one_records : RecordsAreUnique
     → (id other : ℕ) (records others : List (List ℕ)) (left : Contents) → IsId id
     → IsId other → SlotsRepresent id records left → SlotsRepresent other others left
     → (id ≡ other) × (records ≡ others)
 one_records unique id other records others left is are a b =
-    elim a.one [
-      | inl s ↦ elim b.one [
-        | inl t ↦ together (s ∙ sym t)
-        | inr t ↦ absurd
-            (not_both id other records others left a b (omega (arith, s, t)) (omega (arith, s, t)))
-      ]
-      | inr s ↦ elim b.one [
-        | inl t ↦ absurd
-            (not_both id other records others left a b (omega (arith, s, t)) (omega (arith, s, t)))
-        | inr t ↦ together (s ∙ sym t)
-      ]
-    ]
-  where
-    together : a.slot ≡ b.slot → (id ≡ other) × (records ≡ others)
-    together same =
-        same_slot unique (left b.slot) a.generation b.generation id other records others is are
-        (subst (λ (f : ℕ). IsSomeAnd (left f) (IsSlot a.generation id records)) same a.counting)
-        b.counting
+    let one = represent_counts id records left a in
+    let two = represent_counts other others left b in
+    let same : a.slot ≡ b.slot = one_counts left
+    (counting_by formats.Two a.slot a.generation id one.0)
+    (counting_by formats.Two b.slot b.generation other two.0) one.1 two.1 in
+    same_slot unique (left b.slot) a.generation b.generation id other records others is are
+    (subst (λ (f : ℕ). IsSomeAnd (left f) (IsSlot a.generation id records)) same a.counting)
+    b.counting
 
 -- ---- edits
 

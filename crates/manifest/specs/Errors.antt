@@ -34,3 +34,4 @@ IsOfFiles manifest.Damaged = Unit {0}
 IsOfFiles manifest.NotCreated = ⊥
 IsOfFiles manifest.Memory = Unit {0}
 IsOfFiles manifest.Failed = ⊥
+IsOfFiles manifest.OldFormat = ⊥

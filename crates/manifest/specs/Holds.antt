@@ -13,12 +13,12 @@ use Rattle.version_edits.specs.{first_version}
 use Rattle.version_edits.specs.{change_text}
 use Rattle.version_edits.specs.{full_change}
 
--- what stands behind the gate of a slot with one record: the generation, the id, the record behind
--- an open gate, and a closed gate
+-- what stands behind the gate of a slot with one record: the generation, 0 in the place of format
+-- 1's id, the id, the record behind an open gate, and a closed gate
 abbrev pub slot_behind : ℕ → ℕ → List ℕ → List ℕ
 slot_behind generation id one =
-    to_be_bytes w64 generation ++ (to_be_bytes w16 id
-    ++ (1 ∷ (to_be_bytes w32 (length one) ++ (one ++ 0 ∷ []))))
+    to_be_bytes w64 generation ++ (to_be_bytes w16 0 ++ (to_be_bytes w16 id
+    ++ (1 ∷ (to_be_bytes w32 (length one) ++ (one ++ 0 ∷ [])))))
 
 -- The files are those of the slots: the counting one holds the records behind its head, and a crash
 -- leaves both as they are.

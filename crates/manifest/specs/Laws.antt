@@ -5,7 +5,7 @@ use Rattle.version_edits.specs.{NodeVersion}
 use Rattle.version_edits.specs.{IsVersion}
 use Rattle.manifest.specs.declared.manifest.Manifest.{Manifest}
 use Rattle.manifest.specs.Manifests.{ManifestHolds}
-use Rattle.manifest.specs.Slots.{IsNotCreated, IsSlotFile, ManifestRepresents}
+use Rattle.manifest.specs.Slots.{IsNotCreated, IsOldStore, IsSlotFile, ManifestRepresents}
 
 -- files represent one version at most
 abbrev pub VersionIsOne : Type 0
@@ -21,6 +21,11 @@ VersionsAreLawful = (named : NodeVersion) (left : Contents) → ManifestRepresen
 abbrev pub VersionsAreCreated : Type 0
 VersionsAreCreated = (named : NodeVersion) (left : Contents) → ManifestRepresents named left →
     IsNotCreated left → ⊥
+
+-- files whose slot that counts is of format 1 are of a created store, and represent no version
+abbrev pub OldStoresAreApart : Type 0
+OldStoresAreApart = (left : Contents) → IsOldStore left →
+    (IsNotCreated left → ⊥) × ((named : NodeVersion) → ManifestRepresents named left → ⊥)
 
 -- ---- of an open manifest
 

@@ -21,7 +21,7 @@ pub use Rattle.version_edits.specs.{change_text, changed, first_version, node_ve
 pub use Rattle.manifest.specs.Changes.{IsBeforeOrAfter}
 pub use Rattle.manifest.specs.Creations.{FindsWhether, HasOnlyCreationFiles, OnlyLooks, WasCutShort}
 pub use Rattle.manifest.specs.Laws.{HeldVersionIsLeft, HeldVersionStays, VersionIsOne}
-pub use Rattle.manifest.specs.Laws.{VersionsAreLawful}
+pub use Rattle.manifest.specs.Laws.{OldStoresAreApart, VersionsAreLawful}
 pub use Rattle.manifest.specs.Holds.{first_slot}
 pub use Rattle.manifest.specs.Manifests.{HasFirstSlots, HasFullSlot, HasLongSlot, HasSameSlots}
 pub use Rattle.manifest.specs.Manifests.{IsNewManifest, IsOpenedManifest, IsRewritten}
@@ -29,6 +29,6 @@ pub use Rattle.manifest.specs.Manifests.{ManifestHasFailed}
 pub use Rattle.manifest.specs.Manifests.{ManifestHasNoRoom, ManifestHolds, NoRoomIsFull}
 pub use Rattle.manifest.specs.Manifests.{SlotsReachGates, counting_file, first_edit_length}
 pub use Rattle.manifest.specs.Manifests.{generation_of, slot_length, spare_file, version_of}
-pub use Rattle.manifest.specs.Slots.{IsNotCreated, IsSlot, IsSlotFile, IsSuperseded}
+pub use Rattle.manifest.specs.Slots.{IsNotCreated, IsOldStore, IsSlot, IsSlotFile, IsSuperseded}
 pub use Rattle.manifest.specs.Slots.{ManifestRepresents, SlotsAreLeft, SlotsRead, SlotsRepresent}
 pub use Rattle.manifest.specs.Slots.{other_slot}

@@ -11,8 +11,8 @@ use Rattle.manifest.specs.declared.error.ManifestError.TheVariants as manifest
 use Rattle.version_edits.specs.{NodeVersion, Change, empty, AreFit, IsFit, after_all}
 use Rattle.version_edits.specs.{IsChange, change_text}
 use Rattle.version_edits.specs.{first_version}
-use Rattle.manifest.specs.Slots.{IsNotCreated, IsSlotFile, ManifestRepresents, SlotsRead}
-use Rattle.manifest.specs.Slots.{other_slot}
+use Rattle.manifest.specs.Slots.{IsNotCreated, IsOldStore, IsSlotFile, ManifestRepresents}
+use Rattle.manifest.specs.Slots.{SlotsRead, other_slot}
 use Rattle.manifest.specs.Holds.{IsLongLog, SlotsHold, first_slot}
 use Rattle.manifest.specs.Replace.{closing_calls}
 
@@ -99,14 +99,17 @@ pub record IsNewManifest (disk : State) (id : ℕ) (ids : List ℕ) (manifest : 
   pub holds : ManifestHolds disk manifest (first_version id ids)
   pub slots : HasFirstSlots disk id ids
 
--- why files are not opened: the machine refused, no store was created, or they represent no version
+-- why files are not opened: the machine refused, no store was created, the slot that counts is of
+-- format 1, or they represent no version
 abbrev pub ManifestRefusal : ManifestError → Contents → Type 0
 ManifestRefusal manifest.Disk left = Unit {0}
 ManifestRefusal manifest.Damaged left =
     (IsNotCreated left → ⊥) × ((named : NodeVersion) → ManifestRepresents named left → ⊥)
+    × (IsOldStore left → ⊥)
 ManifestRefusal manifest.NotCreated left = IsNotCreated left
 ManifestRefusal manifest.Memory left = Unit {0}
 ManifestRefusal manifest.Failed left = ⊥
+ManifestRefusal manifest.OldFormat left = IsOldStore left
 
 -- the files that a manifest changes are the two slots
 abbrev pub ManifestHasSlots : Type 0

@@ -35,8 +35,8 @@ pub record AreOpened (left : Contents) (new : State) (slots : SlotPair) (named :
 abbrev pub slots_of : CountingSlot → Log → SlotPair
 slots_of it log = record {
   slot = it.slot;
-  generation = it.generation;
-  id = it.id;
+  generation = it.head.generation;
+  id = it.head.id;
   other_is_open = it.other_is_open;
   log = log;
 }

@@ -13,21 +13,41 @@ use Rattle.version_edits.specs.{IsChange, change_text}
 
 -- where a slot's log begins
 abbrev pub head_length : ℕ
-head_length = 11
+head_length = 13
 
--- an open gate, the generation, and the node's id
+-- an open gate, the generation, 0 in the place of format 1's id, and the node's id
 abbrev pub slot_head : ℕ → ℕ → List ℕ
-slot_head generation id = 1 ∷ to_be_bytes w64 generation ++ to_be_bytes w16 id
+slot_head generation id =
+    1 ∷ to_be_bytes w64 generation ++ to_be_bytes w16 0 ++ to_be_bytes w16 id
 
 -- an open slot of this generation, with these records
 pub record IsSlot (generation id : ℕ) (records : List (List ℕ)) (bytes : List ℕ) : Type 0 where
   pub head : take head_length bytes ≡ slot_head generation id
   pub log : Represents (drop head_length bytes) records
 
--- the slot is closed, or open with a lesser generation; what is behind its head means nothing
+-- where the log of a slot of format 1 begins
+abbrev pub old_head_length : ℕ
+old_head_length = 11
+
+-- an open gate, the generation, and the node's id, in format 1
+abbrev pub old_slot_head : ℕ → ℕ → List ℕ
+old_slot_head generation id = 1 ∷ to_be_bytes w64 generation ++ to_be_bytes w16 id
+
+-- the bytes begin with a head of format 1, whose id is not 0
+abbrev pub HasOldHead : ℕ → ℕ → List ℕ → Type 0
+HasOldHead generation id bytes =
+    IsId id × (take old_head_length bytes ≡ old_slot_head generation id)
+
+-- an open slot of this generation, of either format
+abbrev pub IsOpenSlot : ℕ → List ℕ → Type 0
+IsOpenSlot generation bytes = (id : ℕ)
+    × ((take head_length bytes ≡ slot_head generation id) ⊎ HasOldHead generation id bytes)
+
+-- The slot is closed, or open with a lesser generation, in either format. What is behind its
+-- generation means nothing.
 abbrev pub IsSuperseded : ℕ → List ℕ → Type 0
-IsSuperseded generation bytes = IsClosed bytes ⊎ ((lesser : ℕ) × (id : ℕ)
-    × (take head_length bytes ≡ slot_head lesser id) × (lesser < generation))
+IsSuperseded generation bytes =
+    IsClosed bytes ⊎ ((lesser : ℕ) × (lesser < generation) × IsOpenSlot lesser bytes)
 
 -- one of the two slots, and the other of them
 abbrev pub IsSlotFile : ℕ → Type 0
@@ -44,6 +64,17 @@ pub record SlotsRepresent (id : ℕ) (records : List (List ℕ)) (left : Content
   pub generation : ℕ
   pub limit : generation ≤ MAX_NUMBER
   pub counting : IsSomeAnd (left slot) (IsSlot generation id records)
+  pub other : IsSomeAnd (left (other_slot slot)) (IsSuperseded generation)
+
+-- The slot that counts is of format 1, and the other is superseded. What is behind its head means
+-- nothing.
+pub record IsOldStore (left : Contents) : Type 0 where
+  pub slot : ℕ
+  pub one : IsSlotFile slot
+  pub generation : ℕ
+  pub limit : generation ≤ MAX_NUMBER
+  pub id : ℕ
+  pub counting : IsSomeAnd (left slot) (HasOldHead generation id)
   pub other : IsSomeAnd (left (other_slot slot)) (IsSuperseded generation)
 
 -- both slots read as these contents

@@ -23,6 +23,8 @@ pub enum ManifestError {
     Memory,
     #[error("the manifest has to be opened again")]
     Failed,
+    #[error("the files have the old format")]
+    OldFormat,
 }
 
 impl From<DiskError> for ManifestError {

@@ -1,7 +1,8 @@
 //! Laws of the definitions that contracts use. The functions do nothing: their clauses are the
 //! laws.
-ghost use Rattle.manifest.specs.Examples.{FirstSlotIs, TableIs};
+ghost use Rattle.manifest.specs.Examples.{FirstSlotIs, OldSlotIs, TableIs};
 ghost use Rattle.manifest.specs.Laws.{HeldVersionIsLeft, HeldVersionStays};
+ghost use Rattle.manifest.specs.Laws.{OldStoresAreApart};
 ghost use Rattle.manifest.specs.Laws.{VersionIsOne, VersionsAreCreated, VersionsAreLawful};
 ghost use Rattle.manifest.specs.Manifests.{ManifestHasSlots, NoRoomIsFull, SlotsReachGates};
 
@@ -14,11 +15,13 @@ pub fn manifest_has_slots()
     ensures { ManifestHasSlots }
 {}
 
-/// The files represent one version at most, and a lawful one, of a store that was created.
+/// The files represent one version at most, and a lawful one, of a store that was created. Files of
+/// an old store, which was created too, represent none.
 pub fn version_is_one()
     ensures one { VersionIsOne }
     ensures lawful { VersionsAreLawful }
     ensures created { VersionsAreCreated }
+    ensures old { OldStoresAreApart }
 {
     changes_differ(); // law: no two edits have one spelling
     histories_are_lawful(); // law: edits of which each may be taken give a version
@@ -41,8 +44,9 @@ pub fn slots_reach_gates()
     fit_edits_are_short(); // law: an edit that may be taken is no longer than a record may be
 }
 
-/// A new slot, a table that is added and one that is given up, byte by byte.
+/// A new slot, the same in format 1, a table that is added and one that is given up, byte by byte.
 pub fn examples()
     ensures slot { FirstSlotIs }
+    ensures old { OldSlotIs }
     ensures table { TableIs }
 {}

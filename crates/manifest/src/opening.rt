@@ -8,7 +8,7 @@ ghost use Rattle.manifest.specs.Slots.{IsSlotFile};
 ghost use Rattle.manifest.specs.Opening.{OpensSlots, SlotsAreKept};
 ghost use Rattle.manifest.specs.Reads.{SlotsAreRead};
 
-use crate::head::{CountingSlot, counting_slot};
+use crate::head::{CountingSlot, SlotFormat, counting_slot};
 use crate::slot_pair::{HEAD_LENGTH, SlotPair};
 use crate::{ManifestError, StoreVersion};
 use configurations::NodeId;
@@ -53,7 +53,10 @@ fn opened_by<D: Disk>(
         SlotsAreKept (D.state disk.old) left → SlotCounts it left →
         OpensSlots left (D.state disk.new) result }
 {
-    let Some(id) = NodeId::new(it.id) else {
+    let SlotFormat::Two = it.head.format else {
+        return Err(ManifestError::OldFormat);
+    };
+    let Some(id) = NodeId::new(it.head.id) else {
         return Err(ManifestError::Damaged);
     };
     let _id = id.get();

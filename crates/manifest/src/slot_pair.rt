@@ -37,18 +37,22 @@ pub struct SlotPair {
 }
 
 /// The place where a slot's log begins.
-pub const HEAD_LENGTH: u64 = 11;
+pub const HEAD_LENGTH: u64 = 13;
 
 /// How much longer than twice its first record a slot is before a rewrite is due, in bytes.
 pub const REWRITE_SLACK: u64 = 65_536;
 
-// A closed gate, the generation, and the node's id.
+// What stands where format 1 has the node's id, which is never 0.
+const NO_OLD_ID: u16 = 0;
+
+// A closed gate, the generation, 0 in the place of format 1's id, and the node's id.
 fn put_head(out: &mut Vec<u8>, generation: u64, id: u16) -> Result<(), AllocError>
-    ensures { OnOk result (out.new.items ≡
-        out.old.items ++ 0 ∷ to_be_bytes w64 generation ++ to_be_bytes w16 id) }
+    ensures { OnOk result (out.new.items ≡ out.old.items ++ 0 ∷ to_be_bytes w64 generation
+        ++ to_be_bytes w16 0 ++ to_be_bytes w16 id) }
 {
     out.push(0)?;
     put_u64(out, generation)?;
+    out.extend_from_slice(&NO_OLD_ID.to_be_bytes())?;
     out.extend_from_slice(&id.to_be_bytes())
 }
 
@@ -70,7 +74,7 @@ fn bytes_of_slot(alloc: Global, generation: u64, id: u16, one: &[u8]) -> Result<
     requires { length one.now < 2 ^ 32 }
     ensures { IfOk result (λ v. v.items ≡ closed_slot generation id one.now) }
 {
-    let mut out = Vec::with_capacity(alloc, one.len() + 17)?;
+    let mut out = Vec::with_capacity(alloc, one.len() + 19)?;
     put_head(&mut out, generation, id)?;
     put_record(&mut out, one)?;
     Ok(out)
@@ -112,8 +116,8 @@ impl SlotPair {
     {
         SlotPair {
             slot: it.slot,
-            generation: it.generation,
-            id: it.id,
+            generation: it.head.generation,
+            id: it.head.id,
             other_is_open: it.other_is_open,
             log,
         }

@@ -104,13 +104,13 @@ pub fn disk_of_adoption<D: Disk + Drop>(rt: &impl Abort, alloc: Global, disk: D)
     engine.into_disk()
 }
 
-// It stands behind the 73 bytes of a slot with two ids.
+// It stands behind the 75 bytes of a slot with two ids.
 #[test]
 fn an_adoption_byte_by_byte(rt: HostRuntime) {
     let mut disk = disk_of_adoption(&rt, rt.alloc(), MemDisk::new(rt.alloc()));
     let mut bytes = [0; 45];
-    let read = disk.read(1, 73, &mut bytes);
-    let is_all = read.is_ok() && disk.length(1) == Ok(118);
+    let read = disk.read(1, 75, &mut bytes);
+    let is_all = read.is_ok() && disk.length(1) == Ok(120);
     is_so(&rt, is_all && is_same(&bytes, ADOPTED), "the bytes");
 }
 

@@ -71,7 +71,7 @@ impl Disk for NotingDisk {
 
     ghost past = { λ disk. past_states disk.disk };
 
-    ghost marks = { λ disk. disk.disk.marks };
+    ghost incidents = { λ disk. disk.disk.incidents };
 
     ghost allocates = { ⊥ };
 
@@ -197,11 +197,11 @@ const STORE: &[Called] = &[
     Called::Sync(1),
 ];
 
-// An edit behind the closed gate of the 72 bytes of a new slot, and then the gate.
+// An edit behind the closed gate of the 74 bytes of a new slot, and then the gate.
 const RECORD: &[Called] = &[
-    Called::Write(1, 72, 0),
+    Called::Write(1, 74, 0),
     Called::Sync(1),
-    Called::Write(1, 71, 1),
+    Called::Write(1, 73, 1),
     Called::Sync(1),
 ];
 
@@ -248,12 +248,12 @@ fn a_manifest_makes_its_calls_in_their_order(rt: HostRuntime) {
     }
 }
 
-// The edit of an adoption behind the closed gate of the 74 bytes of a slot with two ids, and then
+// The edit of an adoption behind the closed gate of the 76 bytes of a slot with two ids, and then
 // the gate.
 const ADOPTION: &[Called] = &[
-    Called::Write(1, 74, 0),
+    Called::Write(1, 76, 0),
     Called::Sync(1),
-    Called::Write(1, 73, 1),
+    Called::Write(1, 75, 1),
     Called::Sync(1),
 ];
 

@@ -46,7 +46,7 @@ impl Disk for DamagedDisk {
 
     ghost past = { λ disk. past_states disk.disk };
 
-    ghost marks = { λ disk. disk.disk.marks };
+    ghost incidents = { λ disk. disk.disk.incidents };
 
     ghost allocates = { ⊥ };
 

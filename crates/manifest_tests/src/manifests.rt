@@ -15,7 +15,7 @@ use std::process::Abort;
 /// The slot of node 1 alone after its creation: a head of generation 1, a record, a closed gate.
 /// The record is the next file 4, floor, flushed and epoch 0, the ids, and log 3 from batch 1.
 pub const SLOT: &[u8] = &[
-    1, 0, 0, 0, 0, 0, 0, 0, 1, 0, 1, 1, 0, 0, 0, 55, //
+    1, 0, 0, 0, 0, 0, 0, 0, 1, 0, 0, 0, 1, 1, 0, 0, 0, 55, //
     0, 0, 0, 0, 0, 0, 0, 4, 0, 0, 0, 0, 0, 0, 0, 0, 0, 0, 0, 0, 0, 0, 0, 0, 0, 0, 0, 0, 1, 0, 1, //
     0, 0, 0, 1, 0, 0, 0, 0, 0, 0, 0, 3, 0, 0, 0, 0, 0, 0, 0, 1, 0, 0, 0, 0, 0,
 ];

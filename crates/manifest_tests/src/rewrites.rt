@@ -13,11 +13,11 @@ use std::process::Abort;
 // The keys that all batches put, each of the greatest length.
 const KEYS: u64 = 12;
 
-// After so many flushes the slot has 11 bytes, 60 of the first record, 2,129 of each flush, and its
-// closed gate: 66,071, which is more than twice 55 and 65,536. With one flush less it is not.
+// After so many flushes the slot has 13 bytes, 60 of the first record, 2,131 of each flush, and its
+// closed gate: 66,135, which is more than twice 55 and 65,536. With one flush less it is not.
 const FIRST: u64 = 31;
 
-// After so many more it has 11, 64,695, 62 times 2,129 and 1, which is more than twice 64,690 and
+// After so many more it has 13, 64,757, 62 times 2,131 and 1, which is more than twice 64,752 and
 // 65,536: the first edit then has 32 logs and 31 tables.
 const SECOND: u64 = 93;
 

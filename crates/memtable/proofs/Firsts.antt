@@ -11,8 +11,9 @@ use Rattle.std.specs.Ordering.{nat_cmp, ordering_then, ordering_reverse}
 use Rattle.std.proofs.lemmas.Cmp.{ranked, by_ranked}
 use Rattle.merge_iter.specs.declared.direction.Direction.{Direction}
 use Rattle.merge_iter.specs.declared.direction.Direction.TheVariants.{Forward, Backward}
-use Rattle.kv_types.specs.{Entry, StoredKey, stored_cmp}
-use Rattle.kv_types.specs.StoredKeysLemmas.{stored_tied, stored_total}
+use Rattle.byte_fields.specs.{StoredKey, stored_cmp}
+use Rattle.byte_fields.specs.StoredKeysLemmas.{stored_tied, stored_total}
+use Rattle.kv_types.specs.{Entry}
 use Rattle.merge_iter.specs.{Position, On, Off, Broken, entry_cmp, EntryPrecedes, IsFirst}
 use Rattle.merge_iter.specs.EntryParts.{numbers_fall}
 use Rattle.memtable.specs.declared.version.Version.{Version}

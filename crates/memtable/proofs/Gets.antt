@@ -4,7 +4,8 @@ use Rattle.std.proofs.Common.{Option, Some, None}
 use Rattle.std.specs.List.{slice_get}
 use Rattle.std.specs.BTreeMap.{get}
 use Rattle.std.proofs.lemmas.Option.{same_Some}
-use Rattle.kv_types.specs.{Entry, IsNewest, IsUnseen, StoredKey, stored_cmp}
+use Rattle.byte_fields.specs.{StoredKey, stored_cmp}
+use Rattle.kv_types.specs.{Entry, IsNewest, IsUnseen}
 use Rattle.memtable.specs.declared.version.Version.{Version}
 use Rattle.memtable.specs.declared.version.Versions.{Versions}
 use Rattle.memtable.specs.Versions.{all_of, IsRisingList, IsLastUpTo}
@@ -43,28 +44,26 @@ pub newest : (m : VersionMap) (key : StoredKey) (vs : Versions) (at own place : 
     → own ≡ at → Some vs ≡ get stored_cmp m key → HasRisingNumbers m
     → (IsRisingList (all_of vs) → IsLastUpTo (all_of vs) own (Some place))
     → slice_get (all_of vs) place ≡ Some v → v.value ≡ value
-    → (number : ℕ) × IsNewest at (MapHolds m) (record { key = key; number = number; value = value })
+    → IsNewest at (MapHolds m) (record { key = key; number = v.number; value = value })
 newest m key vs at own place v value same is rising last there left =
     let up = found_rising m key vs is rising in
     let to : IsLastUpTo (all_of vs) at (Some place) =
     subst (λ x. IsLastUpTo (all_of vs) x (Some place)) same (last up) in
-    let here : versions_at m key ≡ all_of vs = ap found (sym is) in (
-      v.number,
-      record {
-        seen = (
-          (
-            place,
-            ap (λ xs. slice_get xs place) here
-                ∙ (there ∙ ap (λ x. Some (record { number = v.number; value = x })) left),
-          ),
-          to.1 place v (omega arith) there,
-        );
-        newest = λ other seen key_is.
-            let has = held m key other seen.0 key_is in
-            greatest (all_of vs) at place v up to there has.0 (entry_version other)
-            (ap (λ xs. slice_get xs has.0) (sym here) ∙ has.1) seen.1;
-      },
-    )
+    let here : versions_at m key ≡ all_of vs = ap found (sym is) in
+    record {
+      seen = (
+        (
+          place,
+          ap (λ xs. slice_get xs place) here
+              ∙ (there ∙ ap (λ x. Some (record { number = v.number; value = x })) left),
+        ),
+        to.1 place v (omega arith) there,
+      );
+      newest = λ other seen key_is.
+          let has = held m key other seen.0 key_is in
+          greatest (all_of vs) at place v up to there has.0 (entry_version other)
+          (ap (λ xs. slice_get xs has.0) (sym here) ∙ has.1) seen.1;
+    }
 
 -- all versions of the key are newer
 unseen : (m : VersionMap) (key : StoredKey) (at : ℕ)

@@ -4,7 +4,7 @@ use Rattle.std.proofs.Common.{Some, None, refl, arith}
 use Rattle.std.specs.Option.{IfSome, ForSome}
 use Rattle.std.specs.BTreeMap.{IsOrdered}
 use Rattle.std.proofs.lemmas.Option.{same_Some}
-use Rattle.kv_types.specs.{StoredKey, stored_cmp}
+use Rattle.byte_fields.specs.{StoredKey, stored_cmp}
 use Rattle.merge_iter.specs.{IsFirst}
 use Rattle.merge_iter.specs.declared.direction.Direction.TheVariants.{Forward, Backward}
 use Rattle.memtable.specs.declared.place.VersionPlace.{VersionPlace}

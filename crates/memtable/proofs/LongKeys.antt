@@ -6,7 +6,8 @@ use Rattle.std.specs.declared.cmp.Ordering.{Ordering}
 use Rattle.std.specs.declared.cmp.Ordering.TheVariants.{Less, Equal, Greater}
 use Rattle.std.specs.Ordering.{nat_cmp, ordering_then, ordering_reverse}
 use Rattle.merge_iter.specs.declared.direction.Direction.TheVariants.{Forward}
-use Rattle.kv_types.specs.{Entry, StoredKey}
+use Rattle.byte_fields.specs.{StoredKey, bytes_of, space_of}
+use Rattle.kv_types.specs.{Entry}
 use Rattle.merge_iter.specs.{Position, EntryPrecedes, IsFirst, spot}
 use Rattle.memtable.specs.Maps.{VersionMap, MapHolds}
 use Rattle.memtable.proofs.Firsts.{Keys, parts, by_key, first_alike}
@@ -55,7 +56,7 @@ tells (suc n) (x ∷ k) [] l m = absurd (omega (arith, m))
 tells (suc n) (x ∷ k) (y ∷ b) l m = heads n x y k b (nat_cmp x y) refl
     (tells n k b (omega (arith, l)) (omega (arith, m)))
 
-pub long_key : (m : VersionMap) (n : ℕ) (bytes own : StoredKey) (number : ℕ) (s : Position)
+long_key : (m : VersionMap) (n : ℕ) (bytes own : StoredKey) (number : ℕ) (s : Position)
     → own ≡ take n bytes → n < length bytes
     → ((entry : Entry) → MapHolds m entry → length entry.key ≤ n)
     → IsFirst Forward (λ entry. MapHolds m entry × (Keys own entry.key ≡ Less)) s
@@ -78,3 +79,19 @@ long_key m n bytes own number s is long short first =
         (λ p. subst (λ x. Keys x entry.key ≡ Less) (sym is) a.1),
       )
     ]) first
+
+beyond : (key : StoredKey) → length key ≤ suc (length (bytes_of key))
+beyond [] = omega arith
+beyond (space ∷ bytes) = omega arith
+
+-- the same, of the bytes behind the space
+pub long_stored_key : (m : VersionMap) (n : ℕ) (key own : StoredKey) (number : ℕ) (s : Position)
+    → own ≡ space_of key ∷ take n (bytes_of key) → n < length (bytes_of key)
+    → ((entry : Entry) → MapHolds m entry → length (bytes_of entry.key) ≤ n)
+    → IsFirst Forward (λ entry. MapHolds m entry × (Keys own entry.key ≡ Less)) s
+    → IsFirst Forward (λ entry. MapHolds m entry × (EntryPrecedes Forward entry (spot key number)
+    → ⊥)) s
+long_stored_key m n [] own number s is long short first = absurd (omega (arith, long))
+long_stored_key m n (space ∷ bytes) own number s is long short first =
+    long_key m (suc n) (space ∷ bytes) own number s is (omega (arith, long))
+    (λ entry has. let le = short entry has in omega (arith, le, beyond entry.key)) first

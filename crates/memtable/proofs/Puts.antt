@@ -9,13 +9,16 @@ use Rattle.std.specs.Ordering.{is_eq}
 use Rattle.std.specs.BTreeMap.{get}
 use Rattle.std.proofs.lemmas.Map.Text.{is_eq-slice_cmp}
 use Rattle.std.proofs.lemmas.Slice.Eq.{bytes_eq-Decides}
+use Rattle.byte_fields.specs.{StoredKey, row_key, stored_cmp}
 use Rattle.kv_types.specs.declared.edit.Edit.{Edit}
+use Rattle.kv_types.specs.declared.edit.Edit.TheVariants.{Put, Delete}
+use Rattle.kv_types.specs.Entries.{row_edit}
 use Rattle.kv_types.specs.Maps.{key_of, value_put, last_edit}
-use Rattle.kv_types.specs.{StoredKey, stored_cmp}
+use Rattle.memtable.specs.declared.bounds.TheConstants.{ENTRY_BYTES}
 use Rattle.memtable.specs.declared.version.Version.{Version}
 use Rattle.memtable.specs.declared.version.Versions.{Versions}
 use Rattle.memtable.specs.Versions.{all_of, with_version, lacks}
-use Rattle.memtable.specs.Sizes.{capped_sum, edit_size, edits_size}
+use Rattle.memtable.specs.Sizes.{capped_sum, edit_size, edits_size, value_size}
 use Rattle.std.proofs.Common.{inl, inr, suc, drop, get_or}
 use Rattle.std.proofs.Math.Seq.{drop-cons}
 use Rattle.std.proofs.Math.Nat.{min-eq_left, min-eq_right}
@@ -66,6 +69,22 @@ pub lacks_in : (m : VersionMap) (key own : StoredKey) (number : ℕ) (o : Option
     (versions_at m key) number
 lacks_in m key own number o added e is a =
     a ∙ (ap (λ x. lacks (found x) number) is ∙ ap (λ k. lacks (versions_at m k) number) e)
+
+-- ---- edits of rows, by their stored keys
+
+pub row_edit-key : (edit : Edit) → key_of (row_edit edit) ≡ row_key (key_of edit)
+row_edit-key (Put key value) = refl
+row_edit-key (Delete key) = refl
+
+pub row_edit-value : (edit : Edit) → value_put (row_edit edit) ≡ value_put edit
+row_edit-value (Put key value) = refl
+row_edit-value (Delete key) = refl
+
+-- the entry of a row counts the bytes of the key that its edit names
+pub row_edit-size : (edit : Edit) → edit_size (row_edit edit)
+    ≡ length (key_of edit) + value_size (value_put edit) + ENTRY_BYTES
+row_edit-size (Put key value) = refl
+row_edit-size (Delete key) = refl
 
 -- ---- edit by edit, from the last on
 

@@ -18,8 +18,8 @@ use Rattle.std.proofs.lemmas.Map.Views.{range_contains-from_IsInRange}
 use Rattle.std.proofs.lemmas.Map.Text.{is_eq-slice_cmp}
 use Rattle.std.proofs.lemmas.Slice.Eq.{bytes_eq-Decides}
 use Rattle.std.proofs.lemmas.Bool.{false≢true}
-use Rattle.kv_types.specs.{StoredKey, stored_cmp}
-use Rattle.kv_types.specs.StoredKeysLemmas.{stored_total}
+use Rattle.byte_fields.specs.{StoredKey, stored_cmp}
+use Rattle.byte_fields.specs.StoredKeysLemmas.{stored_total}
 use Rattle.memtable.specs.declared.version.Versions.{Versions}
 use Rattle.memtable.specs.Maps.{VersionMap}
 use Rattle.memtable.specs.Ranges.{KeyList, keys_after, keys_before}

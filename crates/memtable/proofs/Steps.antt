@@ -12,8 +12,9 @@ use Rattle.std.specs.Ordering.{ordering_reverse, is_gt, is_lt}
 use Rattle.std.proofs.lemmas.Option.{same_Some, slice_get_cases, slice_get_within}
 use Rattle.merge_iter.specs.declared.direction.Direction.{Direction}
 use Rattle.merge_iter.specs.declared.direction.Direction.TheVariants.{Forward, Backward}
-use Rattle.kv_types.specs.{Entry, StoredKey, stored_cmp}
-use Rattle.kv_types.specs.StoredKeysLemmas.{stored_total}
+use Rattle.byte_fields.specs.{StoredKey, stored_cmp}
+use Rattle.byte_fields.specs.StoredKeysLemmas.{stored_total}
+use Rattle.kv_types.specs.{Entry}
 use Rattle.merge_iter.specs.{Position, Off, EntryPrecedes, IsFirst, IfOn}
 use Rattle.memtable.specs.declared.version.Version.{Version}
 use Rattle.memtable.specs.declared.version.Versions.{Versions}

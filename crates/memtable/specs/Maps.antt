@@ -1,8 +1,12 @@
 -- The entries of a map from keys to their versions.
-use Rattle.std.specs.Prelude.{◌≡◌, ℕ, List, [], ◌∷◌, ◌++◌, slice_get}
+use Rattle.std.specs.Prelude.{◌≡◌, ℕ, ◌<◌, List, [], ◌∷◌, ◌++◌, map, slice_get}
 use Rattle.std.specs.Prelude.{Option, Some, None}
 use Rattle.std.specs.BTreeMap.{BTreeMap, get}
-use Rattle.kv_types.specs.{Entry, StoredKey, stored_cmp}
+use Rattle.byte_fields.specs.{StoredKey, stored_cmp}
+use Rattle.kv_types.specs.declared.edit.Edit.{Edit}
+use Rattle.kv_types.specs.declared.mark.Mark.{Mark}
+use Rattle.kv_types.specs.{Entry, last_edit}
+use Rattle.kv_types.specs.Entries.{mark_edits, row_edit}
 use Rattle.merge_iter.specs.{IsTableEntry}
 use Rattle.memtable.specs.declared.version.Version.{Version}
 use Rattle.memtable.specs.declared.version.Versions.{Versions}
@@ -48,3 +52,22 @@ abbrev pub added : List Version → ℕ → Option (Option (List ℕ)) → List 
 added versions number None = versions
 added versions number (Some value) =
     versions ++ record { number = number; value = value } ∷ []
+
+-- ---- what a batch adds
+
+-- the number is greater than those of all versions
+abbrev pub IsAbove : ℕ → VersionMap → Type 0
+IsAbove number map =
+    (key : StoredKey) (i : ℕ) (version : Version) →
+    slice_get (versions_at map key) i ≡ Some version → version.number < number
+
+-- the second map has what the last of these edits of each key left, at the number, and what the
+-- first has
+abbrev pub Adds : ℕ → List Edit → VersionMap → VersionMap → Type 0
+Adds number edits old new =
+    (key : StoredKey) → versions_at new key ≡ added (versions_at old key) number
+    (last_edit edits key)
+
+-- edits of rows, and the edit of a mark behind them, by stored keys
+abbrev pub edits_put : List Edit → Option Mark → List Edit
+edits_put edits mark = map row_edit edits ++ mark_edits mark

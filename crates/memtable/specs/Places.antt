@@ -2,7 +2,7 @@
 use Rattle.std.specs.Prelude.{◌≡◌, ◌<◌, length, slice_get, Option, Some, None, Bool, true}
 use Rattle.std.specs.Prelude.{false}
 use Rattle.std.specs.BTreeMap.{get}
-use Rattle.kv_types.specs.{StoredKey, stored_cmp}
+use Rattle.byte_fields.specs.{StoredKey, stored_cmp}
 use Rattle.merge_iter.specs.{Position, On, Off, Broken}
 use Rattle.memtable.specs.declared.version.Version.{Version}
 use Rattle.memtable.specs.declared.place.VersionPlace.{VersionPlace}

@@ -1,6 +1,7 @@
 -- What a memtable holds, and what a lookup finds in it.
 use Rattle.std.specs.Prelude.{ℕ, ◌<◌, Some, None, IsTrue}
-use Rattle.kv_types.specs.{Entry, IsNewest, IsUnseen, StoredKey}
+use Rattle.byte_fields.specs.{StoredKey}
+use Rattle.kv_types.specs.{Entry, IsNewest, IsUnseen}
 use Rattle.memtable.specs.declared.found.Found.{Found}
 use Rattle.memtable.specs.declared.found.Found.TheVariants as lookup
 use Rattle.memtable.specs.declared.memtable.Memtable.{Memtable}
@@ -23,11 +24,11 @@ abbrev pub IsNewNumber : Memtable → ℕ → Type 0
 IsNewNumber table number = (HasFailedAdd table → ⊥) → (entry : Entry) → TableHolds table entry →
     entry.number < number
 
--- what a key has at a number: the value of its newest entry, or a deletion, or no entry
+-- what a key has at a number: the value and the number of its newest entry, or a deletion, or no
+-- entry
 abbrev pub IsFoundAt : Memtable → StoredKey → ℕ → Found → Type 0
-IsFoundAt table key at (lookup.Value value) =
-    (number : ℕ) × IsNewest at (TableHolds table)
-    (record { key = key; number = number; value = Some value.now })
+IsFoundAt table key at (lookup.Value value number) =
+    IsNewest at (TableHolds table) (record { key = key; number = number; value = Some value.now })
 IsFoundAt table key at lookup.Deleted =
     (number : ℕ) × IsNewest at (TableHolds table)
     (record { key = key; number = number; value = None })

@@ -2,7 +2,7 @@
 
 ghost use Rattle.std.specs.Prelude.{◌≡◌, IfOk, IfSome, false, None};
 ghost use Rattle.std.specs.Option.{ForSome};
-ghost use Rattle.kv_types.specs.{lent_key};
+ghost use Rattle.byte_fields.specs.{lent_key};
 ghost use Rattle.std.proofs.Props.{props};
 ghost use Rattle.merge_iter.specs.declared.direction.Direction.TheVariants.{Forward};
 ghost use Rattle.merge_iter.specs.{EntryPrecedes, IsFirst, spot};
@@ -12,8 +12,7 @@ ghost use Rattle.memtable.specs.Ranges.{keys_after, keys_before};
 
 use crate::place::{VersionPlace, back, from, front};
 use crate::version::Versions;
-use kv_types::bounds::MAX_KEY;
-use kv_types::{LentKey, StoredKey};
+use byte_fields::{LentKey, MAX_KEY, StoredKey};
 use merge_iter::{Cursor, CursorError};
 use std::alloc::{AllocError, Global};
 use std::collections::BTreeMap;
@@ -55,7 +54,7 @@ fn sought<'a>(
 {
     if key.len() > MAX_KEY {
         let (first, _) = key.as_bytes().split_at(MAX_KEY);
-        let beginning = LentKey::new(first).to_stored(alloc)?;
+        let beginning = LentKey::new(key.space(), first).to_stored(alloc)?;
         return Ok(front(map, Bound::Excluded(&beginning)));
     }
     let key = key.to_stored(alloc)?;

@@ -12,7 +12,8 @@ use crate::error::MemtableError;
 use crate::found::Found;
 use crate::put::put_all;
 use crate::version::Versions;
-use kv_types::{Batch, Number, StoredKey};
+use byte_fields::StoredKey;
+use kv_types::{Batch, Number};
 use merge_iter::Cursor;
 use std::alloc::Global;
 use std::collections::BTreeMap;
@@ -47,8 +48,8 @@ impl Memtable {
         }
     }
 
-    /// Adds the entries of a batch: for each of its keys what the last edit left. After `Memory`
-    /// the memtable answers `Failed`.
+    /// Adds the entries of a batch: for each of its keys what the last edit left, and the request
+    /// of its mark. After `Memory` the memtable answers `Failed`.
     pub fn add(&mut self, number: Number, batch: &Batch) -> Result<(), MemtableError>
         requires { IsNewNumber self.old number }
         ensures adds { OnOk result ((entry : Entry) → TableHolds self.new entry
@@ -64,7 +65,15 @@ impl Memtable {
         }
         self.has_failed = true;
         let edits = batch.edits();
-        self.bytes = put_all(self.alloc, &mut self.map, number.get(), edits, self.bytes)?;
+        let mark = batch.mark();
+        self.bytes = put_all(
+            self.alloc,
+            &mut self.map,
+            number.get(),
+            edits,
+            mark,
+            self.bytes,
+        )?;
         self.has_failed = false;
         Ok(())
     }
@@ -91,8 +100,9 @@ impl Memtable {
         let Some(place) = versions.last_up_to(at.get()) else {
             return Ok(Found::None);
         };
-        match &versions.get(place).value {
-            Some(value) => Ok(Found::Value(value)),
+        let version = versions.get(place);
+        match &version.value {
+            Some(value) => Ok(Found::Value(value, version.number)),
             None => Ok(Found::Deleted),
         }
     }

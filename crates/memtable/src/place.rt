@@ -4,7 +4,7 @@ ghost use Rattle.std.specs.Prelude.{◌≡◌, IfSome};
 ghost use Rattle.std.specs.Option.{ForSome};
 ghost use Rattle.std.specs.BTreeMap.Range.{IsFromStart, IsUpToEnd};
 ghost use Rattle.std.specs.Range.Bound.{bound_map};
-ghost use Rattle.kv_types.specs.{stored_cmp};
+ghost use Rattle.byte_fields.specs.{stored_cmp};
 ghost use Rattle.merge_iter.specs.declared.direction.Direction.TheVariants.{Forward, Backward};
 ghost use Rattle.merge_iter.specs.{EntryPrecedes, IsFirst, IfOn, spot};
 ghost use Rattle.memtable.specs.Maps.{MapHolds, HasRisingNumbers};
@@ -12,7 +12,7 @@ ghost use Rattle.memtable.specs.Places.{IsVersionPlace, place_position, maybe_po
 ghost use Rattle.memtable.specs.Ranges.{keys_after, keys_before, IsPopped, IsPoppedBack};
 
 use crate::version::Versions;
-use kv_types::StoredKey;
+use byte_fields::StoredKey;
 use std::collections::BTreeMap;
 use std::collections::btree_map::Range;
 use std::ops::Bound;

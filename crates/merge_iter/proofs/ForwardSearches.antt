@@ -4,7 +4,8 @@ use Rattle.std.proofs.Common.{true, false, Option, IsSome}
 use Rattle.std.specs.declared.cmp.Ordering.TheVariants.{Equal}
 use Rattle.merge_iter.specs.declared.direction.Direction.{Direction}
 use Rattle.merge_iter.specs.declared.direction.Direction.TheVariants.{Forward}
-use Rattle.kv_types.specs.{Entry, StoredKey, IsShown}
+use Rattle.byte_fields.specs.{StoredKey}
+use Rattle.kv_types.specs.{Entry, IsShown}
 use Rattle.merge_iter.specs.Order.{entry_cmp, spot, EntryPrecedes, IsApart}
 use Rattle.merge_iter.specs.Positions.{Position, On, Off, Broken, WalkStart, AtEnd, At, After}
 use Rattle.merge_iter.specs.Positions.{WalkMeets, IsFirst}
@@ -47,7 +48,7 @@ module _ (at : ℕ) (S : Entry → Type 0) where
       → ((key : StoredKey) (p : Entry) → hid' key → IsShown at S p → WalkMeets Forward start p
       → p.key ≡ key → ⊥)
       → IsFirst Forward (λ p. S p × EntryPrecedes Forward r p) s → IsAhead at S start hid' s
-  ahead_step start hid hid' r s a miss grow marks none f = record {
+  ahead_step start hid hid' r s a miss grow hides_it none f = record {
     before = before_step Forward start r s a.before miss f;
     passed = λ entry q on seen c same.
         let g : IsFirst Forward (λ p. S p × EntryPrecedes Forward r p) (On entry) =
@@ -57,7 +58,7 @@ module _ (at : ℕ) (S : Entry → Type 0) where
               subst hid' kr (grow (a.passed r q refl seen k (same ∙ sym kr)))
           | inr k ↦ elim k [
             | inl e ↦ let z = equal_parts q r e in
-                subst hid' (sym z.0 ∙ same) (marks (subst (λ n. n ≤ at) z.1 seen.1))
+                subst hid' (sym z.0 ∙ same) (hides_it (subst (λ n. n ≤ at) z.1 seen.1))
             | inr l ↦ absurd (g.1 q (seen.0, l) c)
           ]
         ];
@@ -78,10 +79,10 @@ module _ (at : ℕ) (S : Entry → Type 0) where
         | inl big ↦ let y = sh.newest.seen.1 in let x = z.1 in omega (arith, big, y, x)
         | inr h ↦ a.none r.key p h sh m z.0
       ] in
-      let marks : r.number ≤ at → IsHidden hides hidden r.key =
+      let hides_it : r.number ≤ at → IsHidden hides hidden r.key =
       λ le. elim j.0 [ inl big ↦ absurd (omega (arith, big, le)) | inr h ↦ h ] in
       let base = ahead_step start (IsHidden hides hidden) (IsHidden hides hidden) r s a miss
-      (λ h. h) marks a.none f in
+      (λ h. h) hides_it a.none f in
       subst (λ b. IsAhead at S start (IsHidden b hidden') s) (sym j.1)
       (subst (λ k. IsAhead at S start (IsHidden hides k) s) (sym j.2) base)
   judged_step apart start hides hides' hidden hidden' r s a (inr j) f =

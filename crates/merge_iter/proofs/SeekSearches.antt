@@ -5,7 +5,8 @@ use Rattle.merge_iter.specs.declared.direction.Direction.TheVariants.{Forward, B
 use Rattle.merge_iter.specs.declared.error.CursorError.{CursorError}
 use Rattle.merge_iter.specs.declared.mode.Mode.{Mode}
 use Rattle.merge_iter.specs.declared.mode.Mode.TheVariants as mode
-use Rattle.kv_types.specs.{Entry, StoredKey, IsShown}
+use Rattle.byte_fields.specs.{StoredKey}
+use Rattle.kv_types.specs.{Entry, IsShown}
 use Rattle.merge_iter.specs.Order.{spot, EntryPrecedes, IsApart}
 use Rattle.merge_iter.specs.Positions.{Position, On, Off, Broken, At, After, WalkMeets, IsFirst}
 use Rattle.merge_iter.specs.EntryOrder.{cases, never, chain, same_right}

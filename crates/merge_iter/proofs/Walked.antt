@@ -6,7 +6,8 @@ use Rattle.merge_iter.specs.declared.direction.Direction.TheVariants.{Forward, B
 use Rattle.merge_iter.specs.declared.error.CursorError.{CursorError}
 use Rattle.merge_iter.specs.declared.mode.Mode.{Mode}
 use Rattle.merge_iter.specs.declared.mode.Mode.TheVariants as mode
-use Rattle.kv_types.specs.{Entry, StoredKey, stored_cmp}
+use Rattle.byte_fields.specs.{StoredKey, stored_cmp}
+use Rattle.kv_types.specs.{Entry}
 use Rattle.merge_iter.specs.Order.{IsAlike, IsApart, EntryPrecedes, spot}
 use Rattle.merge_iter.specs.Positions.{Position, On, Off, Broken, IsOn, IfOn, IsFirst}
 use Rattle.merge_iter.specs.Positions.{WalkStart, At, After, WalkMeets}

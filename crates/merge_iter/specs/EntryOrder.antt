@@ -7,8 +7,8 @@ use Rattle.std.specs.declared.cmp.Ordering.TheVariants.{Less, Equal, Greater}
 use Rattle.std.specs.Ordering.{ordering_reverse}
 use Rattle.merge_iter.specs.declared.direction.Direction.{Direction}
 use Rattle.merge_iter.specs.declared.direction.Direction.TheVariants.{Forward, Backward}
+use Rattle.byte_fields.specs.StoredKeysLemmas.{stored_total}
 use Rattle.kv_types.specs.{Entry}
-use Rattle.kv_types.specs.StoredKeysLemmas.{stored_total}
 use Rattle.merge_iter.specs.Order.{entry_cmp, EntryPrecedes}
 use Rattle.merge_iter.specs.Positions.{WalkStart, AtEnd, At, After, WalkMeets}
 

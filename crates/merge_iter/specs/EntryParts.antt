@@ -5,8 +5,9 @@ use Rattle.std.specs.declared.cmp.Ordering.TheVariants.{Less, Equal, Greater}
 use Rattle.std.specs.Ordering.{nat_cmp, ordering_then}
 use Rattle.std.specs.Cmp.{tied_itself}
 use Rattle.std.proofs.lemmas.Cmp.{ranked, by_ranked}
-use Rattle.kv_types.specs.{Entry, StoredKey, stored_cmp}
-use Rattle.kv_types.specs.StoredKeysLemmas.{stored_tied, stored_total}
+use Rattle.byte_fields.specs.{StoredKey, stored_cmp}
+use Rattle.byte_fields.specs.StoredKeysLemmas.{stored_tied, stored_total}
+use Rattle.kv_types.specs.{Entry}
 use Rattle.merge_iter.specs.Order.{entry_cmp}
 
 below : (x y : ℕ) → nat_cmp x y ≡ Less → x < y

@@ -7,7 +7,8 @@ use Rattle.merge_iter.specs.declared.direction.Direction.TheVariants.{Forward, B
 use Rattle.merge_iter.specs.declared.error.CursorError.{CursorError}
 use Rattle.merge_iter.specs.declared.mode.Mode.{Mode}
 use Rattle.merge_iter.specs.declared.mode.Mode.TheVariants as mode
-use Rattle.kv_types.specs.{Entry, IsSeen, IsShown, StoredKey}
+use Rattle.byte_fields.specs.{StoredKey}
+use Rattle.kv_types.specs.{Entry, IsSeen, IsShown}
 use Rattle.merge_iter.specs.Order.{entry_cmp, EntryPrecedes}
 use Rattle.merge_iter.specs.Positions.{Position, On, Off, Broken, WalkStart, After, WalkMeets}
 use Rattle.merge_iter.specs.Positions.{IsFirst}

@@ -2,7 +2,8 @@
 use Rattle.std.proofs.Common.{◌≡◌, ◌↔◌, ℕ, inl, inr, refl, sym, ◌∙◌, ap, subst, arith, List, Option}
 use Rattle.std.proofs.Common.{Some, None}
 use Rattle.std.specs.Cmp.{tied_itself}
-use Rattle.kv_types.specs.{Entry, IsNewest, IsShown, StoredKey, ViewShows}
+use Rattle.byte_fields.specs.{StoredKey}
+use Rattle.kv_types.specs.{Entry, IsNewest, IsShown, ViewShows}
 use Rattle.merge_iter.specs.Order.{IsApart}
 use Rattle.merge_iter.specs.EntryOrder.{entry_total}
 

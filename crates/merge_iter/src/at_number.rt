@@ -15,7 +15,7 @@ use crate::error::CursorError;
 use crate::kept::KeptEntry;
 use crate::mode::Mode;
 use crate::turns::{first_shown, last_shown, next_shown, prev_shown, seek_shown};
-use kv_types::LentKey;
+use byte_fields::LentKey;
 use std::alloc::Global;
 
 /// The entries of a cursor that the view at a number shows: of each key the newest with at most
@@ -100,8 +100,8 @@ impl<C: Cursor> Cursor for AtNumber<C> {
         match self.mode {
             Mode::Inner => self.inner.key(),
             Mode::Kept => self.kept.key.lent(),
-            Mode::Off => LentKey::empty(),
-            Mode::Broken => LentKey::empty(),
+            Mode::Off => LentKey::least(),
+            Mode::Broken => LentKey::least(),
         }
     }
 

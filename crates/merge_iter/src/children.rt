@@ -1,7 +1,8 @@
 //! Several cursors, moved together.
 ghost use Rattle.std.specs.Prelude.{◌≡◌, ◌↔◌, ◌<◌, ◌≤◌, ◌+◌, IsTrue, OnOk, vec_len, None, Some};
 ghost use Rattle.std.specs.List.{slice_get, sum_by};
-ghost use Rattle.kv_types.specs.{Entry, lent_key};
+ghost use Rattle.byte_fields.specs.{lent_key};
+ghost use Rattle.kv_types.specs.{Entry};
 ghost use Rattle.merge_iter.specs.Order.{spot};
 ghost use Rattle.merge_iter.specs.Positions.{WalkStart, AtEnd, At, After, WalkMeets, IsOn};
 ghost use Rattle.merge_iter.specs.Positions.{IsFirst, IsBroken};
@@ -17,7 +18,7 @@ use crate::cursor::Cursor;
 use crate::direction::Direction;
 use crate::error::CursorError;
 use crate::place::Place;
-use kv_types::LentKey;
+use byte_fields::LentKey;
 
 // The nearest of the first children but child `but`, with child `i` as one more of them.
 fn nearer<C: Cursor>(

@@ -1,6 +1,7 @@
 //! What each cursor does.
 ghost use Rattle.std.specs.Prelude.{Bool, ◌≡◌, ◌↔◌, ℕ, IsTrue, option_map};
-ghost use Rattle.kv_types.specs.{Entry, lent_key};
+ghost use Rattle.byte_fields.specs.{lent_key};
+ghost use Rattle.kv_types.specs.{Entry};
 ghost use Rattle.merge_iter.specs.Order.{spot};
 ghost use Rattle.merge_iter.specs.Positions.{Position, AtEnd, At, IsOn, IfOn};
 ghost use Rattle.merge_iter.specs.TableEntries.{IsTableEntry};
@@ -9,7 +10,7 @@ ghost use Rattle.merge_iter.specs.declared.direction.Direction.{Direction as Way
 ghost use Rattle.merge_iter.specs.declared.direction.Direction.TheVariants.{Forward, Backward};
 
 use crate::error::CursorError;
-use kv_types::LentKey;
+use byte_fields::LentKey;
 
 /// A place in a sorted set of entries: keys rise, and the numbers of one key fall.
 ///

@@ -1,10 +1,11 @@
 //! An entry that is kept while the cursor that it was read from moves on.
 ghost use Rattle.std.specs.Prelude.{◌≡◌, ◌↔◌, IsTrue, OnOk, IfOk, IsSome, Some, []};
+ghost use Rattle.byte_fields.specs.{row_key};
 ghost use Rattle.merge_iter.specs.Positions.{IsOn, IfOn};
 ghost use Rattle.merge_iter.specs.KeptEntries.{kept_entry};
 
 use crate::cursor::Cursor;
-use kv_types::KeyBuffer;
+use byte_fields::KeyBuffer;
 use std::alloc::{AllocError, Global};
 
 /// An entry with a value, in memory of its own.
@@ -18,7 +19,7 @@ pub struct KeptEntry {
 impl KeptEntry {
     /// Room for an entry, without memory yet.
     pub fn new(alloc: Global) -> KeptEntry
-        ensures { kept_entry result ≡ record { key = []; number = 0; value = Some [] } }
+        ensures { kept_entry result ≡ record { key = row_key []; number = 0; value = Some [] } }
     {
         KeptEntry {
             key: KeyBuffer::new(alloc),

@@ -1,7 +1,7 @@
 //! A cursor over a sorted list in memory.
 ghost use Rattle.std.specs.Prelude.{◌≡◌, length};
 ghost use Rattle.std.specs.Ordering.{is_lt};
-ghost use Rattle.kv_types.specs.{lent_key};
+ghost use Rattle.byte_fields.specs.{lent_key};
 ghost use Rattle.merge_iter.specs.ListEntries.{position_at, entry_of, ListHolds, IsSortedList};
 ghost use Rattle.merge_iter.specs.ListEntries.{entries_left};
 ghost use Rattle.merge_iter.specs.Lists.{list_fits, list_laws};
@@ -12,7 +12,7 @@ use crate::cursor::Cursor;
 use crate::error::CursorError;
 use crate::order;
 use crate::owned_entry::OwnedEntry;
-use kv_types::LentKey;
+use byte_fields::LentKey;
 
 // Whether the entry comes before that key and number.
 fn is_before(entry: &OwnedEntry, key: LentKey, number: u64) -> bool

@@ -13,7 +13,7 @@ use crate::cursor::Cursor;
 use crate::direction::Direction;
 use crate::error::CursorError;
 use crate::place::Place;
-use kv_types::LentKey;
+use byte_fields::LentKey;
 
 /// The sorted union of several cursors, of which no two hold entries of one key and number. What it
 /// lends is lent by the child that it stands on.
@@ -118,8 +118,8 @@ impl<C: Cursor> Cursor for Merged<C> {
     fn key(&self) -> LentKey<'_> {
         match self.place {
             Place::On(_, k, _) => self.children[k].key(),
-            Place::Off => LentKey::empty(),
-            Place::Broken => LentKey::empty(),
+            Place::Off => LentKey::least(),
+            Place::Broken => LentKey::least(),
         }
     }
 

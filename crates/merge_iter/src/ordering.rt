@@ -1,9 +1,9 @@
 //! The order of entries.
 ghost use Rattle.std.specs.Prelude.{◌≡◌};
-ghost use Rattle.kv_types.specs.{lent_key};
+ghost use Rattle.byte_fields.specs.{lent_key};
 ghost use Rattle.merge_iter.specs.Order.{entry_cmp, spot};
 
-use kv_types::LentKey;
+use byte_fields::LentKey;
 use std::cmp::Ordering;
 
 /// The order of two entries with these keys and numbers. Their values have no part in it.

@@ -3,8 +3,8 @@ ghost use Rattle.std.specs.Prelude.{◌≡◌, ◌↔◌, IfSome, IsSome, option
 ghost use Rattle.std.proofs.Props.{props};
 ghost use Rattle.merge_iter.specs.TableEntries.{IsTableEntry};
 
-use kv_types::StoredKey;
-use kv_types::bounds::{MAX_KEY, MAX_NUMBER, MAX_VALUE};
+use byte_fields::StoredKey;
+use kv_types::bounds::{MAX_NUMBER, MAX_VALUE};
 
 /// A version of a key: its value at a number, or `None` if the key was deleted there. It keeps the
 /// limits of a table's entry.
@@ -35,7 +35,7 @@ impl OwnedEntry {
             Some(value) => value.len(),
             None => 0,
         };
-        if key.lent().len() > MAX_KEY || number > MAX_NUMBER || value_len > MAX_VALUE {
+        if number > MAX_NUMBER || value_len > MAX_VALUE {
             return None;
         }
         Some(OwnedEntry { key, number, value })

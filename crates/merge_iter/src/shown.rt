@@ -13,7 +13,7 @@ use crate::cursor::Cursor;
 use crate::error::CursorError;
 use crate::kept::KeptEntry;
 use crate::mode::Mode;
-use kv_types::KeyBuffer;
+use byte_fields::KeyBuffer;
 use std::alloc::AllocError;
 
 // Whether the entry is shown. A deletion that is seen hides its key from here on.

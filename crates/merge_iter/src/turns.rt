@@ -1,6 +1,7 @@
 //! The moves of a cursor over the entries shown at a number, by moves of the cursor below.
 ghost use Rattle.std.specs.Prelude.{◌≡◌, ◌⊎◌, ◌<◌, ◌≤◌, ℕ, IsTrue, OnOk};
-ghost use Rattle.kv_types.specs.{Entry, lent_key};
+ghost use Rattle.byte_fields.specs.{lent_key};
+ghost use Rattle.kv_types.specs.{Entry};
 ghost use Rattle.merge_iter.specs.Order.{EntryPrecedes, spot};
 ghost use Rattle.merge_iter.specs.Positions.{AtEnd, At, After, On, WalkMeets, IsOn, IfOn, IsFirst};
 ghost use Rattle.merge_iter.specs.KeptEntries.{kept_entry};
@@ -14,7 +15,7 @@ use crate::kept::KeptEntry;
 use crate::mode::Mode;
 use crate::order;
 use crate::shown::{find_back, find_forward};
-use kv_types::{KeyBuffer, LentKey};
+use byte_fields::{KeyBuffer, LentKey};
 
 // Moves back onto the entry that is shown, where the cursor has gone on behind it.
 fn return_to<C: Cursor>(

@@ -181,7 +181,7 @@ fn page_len(rows: &[(u16, u16)], limit: u32) -> usize {
 fn is_row(rt: &impl Abort, alloc: Global, row: &Row, want: (u16, u16)) -> bool {
     let key = key_at(rt, alloc, want.0);
     let value = value_at(rt, alloc, want.0, want.1);
-    is_same(row.key().as_bytes(), key.as_bytes()) && is_same(row.value(), value.as_bytes())
+    is_same(row.key(), key.as_bytes()) && is_same(row.value(), value.as_bytes())
 }
 
 fn is_page(rt: &impl Abort, alloc: Global, page: &Page, want: &[(u16, u16)], more: bool) -> bool {

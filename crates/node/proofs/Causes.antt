@@ -58,6 +58,7 @@ stop_passed called engine.NotCommitted (Err s) is told = (λ f. cc, λ f. cc)
 stop_passed called engine.NoSuchSnapshot (Err s) is told = (λ f. cc, λ f. cc)
 stop_passed called engine.TooManySnapshots (Err s) is told = (λ f. cc, λ f. cc)
 stop_passed called engine.Exhausted (Err s) is told = (λ f. cc, λ f. cc)
+stop_passed called engine.OldFormat (Err s) is told = (λ f. cc, λ f. cc)
 
 -- a stop is passed on
 pub same_stop : {T U : Type 0} (called : Result T Stop) (e : Stop) (result : Result U Stop) →
@@ -79,6 +80,7 @@ device_told engine.NotCommitted s told = (λ f. cc, λ f. cc)
 device_told engine.NoSuchSnapshot s told = (λ f. cc, λ f. cc)
 device_told engine.TooManySnapshots s told = (λ f. cc, λ f. cc)
 device_told engine.Exhausted s told = (λ f. cc, λ f. cc)
+device_told engine.OldFormat s told = (λ f. cc, λ f. cc)
 
 -- what holds of the cause holds of the refusal that tells it
 pub refuses : {T E : Type 0} (result : Result T E) {e : E} (P : T → Type 0) (Q : E → Type 0) →
@@ -113,6 +115,16 @@ read_env T told at engine.NotCommitted tells whole works above known =
 read_env T told at engine.NoSuchSnapshot tells whole works above known = absurd tells
 read_env T told at engine.TooManySnapshots tells whole works above known = absurd tells
 read_env T told at engine.Exhausted tells whole works above known = absurd tells
+read_env T told at engine.OldFormat tells whole works above known = absurd tells
+
+-- a look-up of a mark is refused for such a cause alone
+pub mark_env : (e : EngineError) → IsEndOrAfter e → (e ≡ engine.Damaged → ⊥) →
+    (e ≡ engine.Failed → ⊥) → IsEnvironmental engine.Disk engine.Memory e
+mark_env engine.Disk ends whole works = inl refl
+mark_env engine.Damaged ends whole works = absurd (whole refl)
+mark_env engine.Memory ends whole works = inr refl
+mark_env _ (inl ends) whole works = absurd ends
+mark_env _ (inr after) whole works = absurd (works after)
 
 -- an opening of a snapshot that the engine may open is refused for want of memory alone
 pub open_memory : (T : Type 0) (told : LookUps) (at : ℕ) (e : EngineError) →
@@ -146,42 +158,44 @@ append_env e count (inr full) room = absurd (omega (arith, full.1, room))
 pub memory_ends : {U : Type 0} (result : Result U Stop) →
     IsErrAnd result (λ s. s ≡ stop.Memory) → IfErr result EndsCreated
 memory_ends (Ok x) told = tt
-memory_ends (Err s) told = λ is. cc
+memory_ends (Err s) told = (λ is. cc, λ is. cc)
 
 -- so does a call that stops for memory alone
 pub only_memory_ends : {U : Type 0} (made : Result U AllocError) (result : Result U Stop) →
     StopsForMemory made result → IfErr result EndsCreated
 only_memory_ends made (Ok x) stops = tt
-only_memory_ends (Ok x) (Err s) stops = λ is. cc
-only_memory_ends (Err e) (Err s) stops = λ is. cc
+only_memory_ends (Ok x) (Err s) stops = (λ is. cc, λ is. cc)
+only_memory_ends (Err e) (Err s) stops = (λ is. cc, λ is. cc)
 
 -- a cause that is passed on
 pub passed_ends : {U : Type 0} (result : Result U Stop) {e : Stop} →
     IsErrAnd result (λ s. s ≡ e) → EndsCreated e → IfErr result EndsCreated
 passed_ends (Ok x) told ends = tt
-passed_ends (Err s) told ends = λ is. ends (sym told ∙ is)
+passed_ends (Err s) told ends = subst EndsCreated (sym told) ends
 
--- an engine's cause is told as `NotCreated` only where it is that
-pub engine_ends : (e : EngineError) → (e ≡ engine.NotCreated → ⊥) → EndsCreated (engine_stop e)
-engine_ends engine.Disk other = λ is. cc
-engine_ends engine.Damaged other = λ is. cc
-engine_ends engine.Memory other = λ is. cc
-engine_ends engine.NotCreated other = absurd (other refl)
-engine_ends engine.Failed other = λ is. cc
-engine_ends engine.TooOld other = λ is. cc
-engine_ends engine.NotCommitted other = λ is. cc
-engine_ends engine.NoSuchSnapshot other = λ is. cc
-engine_ends engine.TooManySnapshots other = λ is. cc
-engine_ends engine.Exhausted other = λ is. cc
+-- an engine's cause is told as `NotCreated` or `OldFormat` only where it is that
+pub engine_ends : (e : EngineError) → (e ≡ engine.NotCreated → ⊥) → (e ≡ engine.OldFormat → ⊥) →
+    EndsCreated (engine_stop e)
+engine_ends engine.Disk created new = (λ is. cc, λ is. cc)
+engine_ends engine.Damaged created new = (λ is. cc, λ is. cc)
+engine_ends engine.Memory created new = (λ is. cc, λ is. cc)
+engine_ends engine.NotCreated created new = absurd (created refl)
+engine_ends engine.Failed created new = (λ is. cc, λ is. cc)
+engine_ends engine.TooOld created new = (λ is. cc, λ is. cc)
+engine_ends engine.NotCommitted created new = (λ is. cc, λ is. cc)
+engine_ends engine.NoSuchSnapshot created new = (λ is. cc, λ is. cc)
+engine_ends engine.TooManySnapshots created new = (λ is. cc, λ is. cc)
+engine_ends engine.Exhausted created new = (λ is. cc, λ is. cc)
+engine_ends engine.OldFormat created new = absurd (new refl)
 
--- the end of an engine is not that
+-- the end of an engine is neither
 pub end_ends : (e : EngineError) → IsEnd e → EndsCreated (engine_stop e)
-end_ends e ends = engine_ends e (λ is. subst IsEnd is ends)
+end_ends e ends = engine_ends e (λ is. subst IsEnd is ends) (λ is. subst IsEnd is ends)
 
 -- nor is a call behind one
 pub later_ends : (e : EngineError) → IsEndOrAfter e → EndsCreated (engine_stop e)
 later_ends e (inl ends) = end_ends e ends
-later_ends e (inr after) = engine_ends e (λ is. cc)
+later_ends e (inr after) = engine_ends e (λ is. cc) (λ is. cc)
 
 -- nor is the refusal of an append
 pub append_ends : (count : ℕ) (e : EngineError) → IsAppendRefusal count e →
@@ -189,11 +203,11 @@ pub append_ends : (count : ℕ) (e : EngineError) → IsAppendRefusal count e �
 append_ends count e (inl later) = later_ends e later
 append_ends count e (inr full) =
     let exhausted = full.0 in
-    engine_ends e (λ is. cc)
+    engine_ends e (λ is. cc) (λ is. cc)
 
 -- nor is that of a read
 pub read_ends : (T : Type 0) (told : LookUps) (at : ℕ) (e : EngineError) →
     IsReadableAnswer {T = T} told at (Err e) → EndsCreated (engine_stop e)
 read_ends T told at e answer =
-    engine_ends e (λ is. subst (λ (d : EngineError). IsReadableAnswer {T = T} told at (Err d)) is
-    answer)
+    let at_error = λ (d : EngineError). IsReadableAnswer {T = T} told at (Err d) in
+    engine_ends e (λ is. subst at_error is answer) (λ is. subst at_error is answer)

@@ -4,7 +4,7 @@ use Rattle.std.proofs.Common.{inr}
 use Rattle.std.proofs.Common.{map, None, refl, sym, subst}
 use Rattle.std.specs.Prelude.{Result, Ok, Err, IfOk}
 use Rattle.std.specs.declared.alloc.AllocError.{AllocError}
-use Rattle.kv_types.specs.{BatchContent}
+use Rattle.kv_types.specs.{BatchContent, Edits}
 use Rattle.disk.specs.{IsEnvironmental}
 use Rattle.disk.specs.declared.Disk.{Ghosts}
 use Rattle.chain_model.specs.{Answer, Message}
@@ -31,7 +31,7 @@ use Rattle.node.proofs.Running.{at_rest, keeps_same}
 module _ {D : Type 0} (g : Ghosts D) where
   -- the output is the machine's answer, and for want of memory the node stops
   pub ends : (old node : Node D g) (x : ℕ) (n : Machine) (input : Input)
-      (a : Answer BatchContent) (made : Result Output AllocError) (result : Result Output Stop) →
+      (a : Answer Edits) (made : Result Output AllocError) (result : Result Output Stop) →
       AlwaysRefines g (disk_of old) (disk_of node) x n a.node →
       NodeRefines g.is_honest g.state node x a.node →
       IfOk made (OutputRefines input a) → StopsForMemory made result →
@@ -87,8 +87,8 @@ module _ {D : Type 0} (g : Ghosts D) where
 
   -- the rule is that of the decision, also after the store's part
   pub ends_rule : (old node : Node D g) (x : ℕ) (n : Machine) (input : Input)
-      (batch : BatchContent) (d : Done) (a : Answer BatchContent) (due told : List PendingSubmit)
-      (sent : ℕ → List (Message BatchContent)) (made : Result Output AllocError)
+      (batch : BatchContent) (d : Done) (a : Answer Edits) (due told : List PendingSubmit)
+      (sent : ℕ → List (Message Edits)) (made : Result Output AllocError)
       (result : Result Output Stop) →
       AlwaysRefines g (disk_of old) (disk_of node) x n a.node →
       StepLeaves x n batch d a → NodeRefines g.is_honest g.state node x a.node →
@@ -109,7 +109,7 @@ module _ {D : Type 0} (g : Ghosts D) where
 
   -- a call that stops
   pub ends_stopped : {T : Type 0} (old node : Node D g) (x : ℕ) (n : Machine) (a : Answer
-      BatchContent)
+      Edits)
       (IsDone : T → Type 0) (result : Result T Stop) (e : Stop) → result ≡ Err e →
       IsEnvironmental stop.Disk stop.Memory e → g.is_honest (disk_of node) →
       AlwaysRefines g (disk_of old) (disk_of node) x n a.node →

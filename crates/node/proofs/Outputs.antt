@@ -8,7 +8,7 @@ use Rattle.std.specs.Ordering.{is_gt, nat_cmp}
 use Rattle.std.specs.declared.alloc.AllocError.{AllocError}
 use Rattle.std.proofs.lemmas.Bool.Decides.{nat_tests}
 use Rattle.std.proofs.lemmas.List.{map-append, map_push}
-use Rattle.kv_types.specs.{BatchContent, Span}
+use Rattle.kv_types.specs.{BatchContent, Edits, Span}
 use Rattle.chain_model.specs.{Message, Answer, reply_read}
 use Rattle.chain_core.specs.declared.Done.{Done}
 use Rattle.chain_core.specs.declared.Input.{Input}
@@ -24,11 +24,11 @@ use Rattle.node.specs.Outputs.{OutputHas, OutputRefines, committed_reply}
 use Rattle.node.specs.Steps.{replies_of}
 
 -- frames one behind another
-pub both_sent : (a b : List Sent) (f g : List (Message BatchContent)) → AreFrames a f →
+pub both_sent : (a b : List Sent) (f g : List (Message Edits)) → AreFrames a f →
     AreFrames b g → AreFrames (a ++ b) (f ++ g)
 both_sent a b f g of_a of_b =
-    let as_model : Sent → Option (Message BatchContent) = λ it. frame_as it.to it.frame in
-    let some : Message BatchContent → Option (Message BatchContent) = λ it. Some it in
+    let as_model : Sent → Option (Message Edits) = λ it. frame_as it.to it.frame in
+    let some : Message Edits → Option (Message Edits) = λ it. Some it in
     map-append as_model a b ∙ ap (λ l. l ++ map as_model b) of_a
     ∙ ap (λ l. map some f ++ l) of_b ∙ sym (map-append some f g)
 
@@ -60,14 +60,14 @@ one_reply_more due i it before new within is was more =
 
 -- the output after the store's part is the answer of the rule
 pub tells_rule : (x : ℕ) (n : Machine) (input : Input) (batch : BatchContent) (d : Done)
-    (a : Answer BatchContent) (due : List PendingSubmit) (sent : List (Message BatchContent))
+    (a : Answer Edits) (due : List PendingSubmit) (sent : List (Message Edits))
     (result : Result Output AllocError) → StepLeaves x n batch d a →
     a.replies ≡ core.committed_responses due →
     sent ≡ frames_after x n d a.node → IfOk result (OutputHas None sent (map committed_reply due)) →
     IfOk result (OutputRefines input a)
 tells_rule x n input batch d a due sent (Ok output) leaves replied frames says = record {
   dropped = says.dropped ∙ sym leaves.dropped;
-  frames = subst (λ (f : List (Message BatchContent)). AreFrames output.frames f)
+  frames = subst (λ (f : List (Message Edits)). AreFrames output.frames f)
       (frames ∙ sym leaves.frames) says.frames;
   replied = says.replied ∙ replies_due input due ∙ ap (replies_of input) (sym replied);
 }

@@ -3,16 +3,16 @@ use Rattle.std.proofs.Common.{◌≡◌, ℕ, List, [], ◌∷◌, ◌++◌, inl
 use Rattle.std.proofs.Common.{inr}
 use Rattle.std.proofs.Common.{refl, sym, ap, subst, ◌∙◌}
 use Rattle.std.specs.Prelude.{◌⊎◌, ◌↔◌, IfErr, IsErrOf, Result, Ok, Err, OnOk}
-use Rattle.kv_types.specs.{BatchContent}
+use Rattle.kv_types.specs.{BatchContent, Edits}
 use Rattle.disk.specs.declared.Disk.{Ghosts}
 use Rattle.disk.specs.{AlwaysLeaves, Contents, IsCrashOutcome, IsSame, IsStill, KeepsDisk, State}
-use Rattle.disk.specs.MomentsLemmas.{weaker}
+use Rattle.disk.specs.MomentsLemmas.{join, weaker}
 use Rattle.disk.specs.StillLemmas.{still, still_more}
 use Rattle.engine.specs.EngineError.TheVariants as engine
 use Rattle.engine.specs.declared.Engine.{Engine}
 use Rattle.engine.specs.EngineError.{EngineError}
 use Rattle.engine.specs.{EngineHolds, Facts, FilesRepresent, HasEnded, IsOneOf}
-use Rattle.engine.specs.{IsOwned}
+use Rattle.engine.specs.{IsNearlyFull, IsOwned}
 use Rattle.engine.specs.{KeepsEngine, LookUps, engine_disk, facts_of, look_ups}
 use Rattle.disk.specs.KeepingLemmas.{kept_as, kept_behind, kept_but, neither, same_files}
 use Rattle.disk.specs.KeepingLemmas.{same_then_same}
@@ -27,7 +27,7 @@ use Rattle.node.specs.Steps.{DiskRefines, NodeRefines, DiskAlwaysRefines, disk_o
 use Rattle.node.specs.Steps.{IsReady, facts_for}
 use Rattle.node.specs.declared.stop.Stop.{Stop}
 use Rattle.node.specs.Stops.{EndsCreated}
-use Rattle.node.specs.Outputs.{AlwaysRefines, HasAppended, IsOnlyRead, KeepsNode}
+use Rattle.node.specs.Outputs.{AlwaysRefines, CallRefines, HasAppended, IsOnlyRead, KeepsNode}
 use Rattle.node.proofs.Causes.{done_told}
 use Rattle.node.proofs.Counts.{appended_config, appended_list, list_is, same_facts}
 
@@ -76,7 +76,7 @@ module _ {D : Type 0} (g : Ghosts D) where
 
   -- an append leaves it before or after
   pub appends : (old : Node D g) (new : D) (x : ℕ) (n : Machine) (batch : BatchContent) (d : Done)
-      (a : Answer BatchContent) → StepLeaves x n batch d a → HasAppended d →
+      (a : Answer Edits) → StepLeaves x n batch d a → HasAppended d →
       NodeRefines g.is_honest g.state old x n →
       AlwaysLeaves g (disk_of old) new (IsOneOf (facts_of old.engine) n.list (facts_of old.engine)
       (n.list ++ batch ∷ [])) → AlwaysRefines g (disk_of old) new x n a.node
@@ -100,7 +100,7 @@ module _ {D : Type 0} (g : Ghosts D) where
 
   -- a node that did its store's part runs as the machine after the rule
   pub goes_on : (old new : Node D g) (x : ℕ) (n : Machine) (batch : BatchContent) (d : Done)
-      (a : Answer BatchContent) → StepLeaves x n batch d a →
+      (a : Answer Edits) → StepLeaves x n batch d a →
       NodeRefines g.is_honest g.state old x n → EngineHolds g new.engine (list_after n batch d) →
       facts_of new.engine ≡ facts_for x a.node → CoreRefines new.core a.node →
       new.core.id ≡ x → NodeRefines g.is_honest g.state new x a.node
@@ -148,7 +148,7 @@ module _ {D : Type 0} (g : Ghosts D) where
   }
 
   -- another step can follow an answer
-  ready_after : {T : Type 0} (old new : Node D g) (result : Result T Stop) → IsReady old →
+  pub ready_after : {T : Type 0} (old new : Node D g) (result : Result T Stop) → IsReady old →
       look_ups new.engine ≡ look_ups old.engine → new.core ≡ old.core →
       OnOk result (HasEnded new.engine → ⊥) → OnOk result (IsReady new)
   ready_after old new (Ok x) ready told same works = record {
@@ -197,4 +197,33 @@ module _ {D : Type 0} (g : Ghosts D) where
     told = told ∙ before.told;
     works = works;
     still = λ honest. still_more (before.still honest) (leaves (before.keeps.honest.1 honest));
+  }
+
+  -- ---- a step behind a read of the store
+
+  -- a node that is kept behind it is kept
+  pub kept_after_read : {S T : Type 0} {x : S} (old mid new : Node D g) (result : Result T Stop) →
+      IsOnlyRead g old.engine mid.engine (Ok x) →
+      (IsNearlyFull mid.engine → IsNearlyFull old.engine) → KeepsNode g mid new result →
+      KeepsNode g old new result
+  kept_after_read old mid new result read full kept = record {
+    disk = kept_behind g (λ a b c first second. tt) read.keeps done_told
+        (kept_but g full kept.disk);
+    works = kept.works;
+    limits = kept.limits ∙ ap (λ (l : LookUps). l.limits) read.told;
+    causes = kept.causes;
+  }
+
+  -- a step that is ended as the machine ends it behind the read is so from before it on
+  pub ends_after_read : {T : Type 0} (old mid new : Node D g) (x : ℕ) (n : Machine)
+      (a : Answer Edits) (IsDone : T → Type 0) (result : Result T Stop) →
+      NodeRefines g.is_honest g.state old x n → IsStill g (disk_of old) (disk_of mid) →
+      CallRefines g mid new x n a IsDone result → CallRefines g old new x n a IsDone result
+  ends_after_read old mid new x n a IsDone result r leaves ends = record {
+    done = ends.done;
+    honest = ends.honest;
+    any_moment = join (λ left. DiskRefines left x n ⊎ DiskRefines left x a.node)
+        (g.state (disk_of old)) (g.state (disk_of mid)) (g.state (disk_of new))
+        (g.past (disk_of old)) (g.past (disk_of mid)) (g.past (disk_of new))
+        (still_refines old (disk_of mid) x n a.node r (leaves r.honest)) ends.any_moment;
   }

@@ -2,7 +2,7 @@
 -- answer.
 use Rattle.std.specs.Prelude.{IfErr, IsErrOf}
 use Rattle.std.specs.Prelude.{◌≡◌, ◌⊎◌, ℕ, Bool, false, List, Option, Result, MatchResult, OnOk}
-use Rattle.kv_types.specs.{BatchContent}
+use Rattle.kv_types.specs.{Edits}
 use Rattle.disk.specs.declared.Disk.{Ghosts}
 use Rattle.disk.specs.{AlwaysLeaves, IsEnvironmental, IsSame, IsStill, KeepsDisk}
 use Rattle.engine.specs.declared.Engine.{Engine}
@@ -30,14 +30,14 @@ abbrev pub committed_reply : PendingSubmit → Reply
 committed_reply it = reply.Committed it.request it.number
 
 -- the output has this drop, these frames and these replies
-pub record OutputHas (dropped_for : Option DropReason) (sent : List (Message BatchContent))
+pub record OutputHas (dropped_for : Option DropReason) (sent : List (Message Edits))
     (told : List Reply) (output : Output) : Type 0 where
   pub dropped : output.dropped ≡ dropped_for
   pub frames : AreFrames output.frames sent
   pub replied : output.replies ≡ told
 
 -- the output has the drop, frames and replies of the machine's answer to an input
-abbrev pub OutputRefines : Input → Answer BatchContent → Output → Type 0
+abbrev pub OutputRefines : Input → Answer Edits → Output → Type 0
 OutputRefines input a = OutputHas a.dropped a.frames (replies_of input a.replies)
 
 -- the store's part appended a batch
@@ -59,7 +59,7 @@ AlwaysRefines g old new x n m =
 -- A call that leads machine n to this answer is done, or it ends in a stop. A crash at any moment
 -- since it began leaves the disk of the machine before the answer or of the one after it.
 pub record CallRefines {D T : Type 0} (g : Ghosts D) (old new : Node D g) (x : ℕ) (n : Machine)
-    (a : Answer BatchContent) (IsDone : T → Type 0) (result : Result T Stop) : Type 0 where
+    (a : Answer Edits) (IsDone : T → Type 0) (result : Result T Stop) : Type 0 where
   pub done : MatchResult result IsDone (IsEnvironmental stop.Disk stop.Memory)
   pub honest : g.is_honest (disk_of new)
   pub any_moment : AlwaysRefines g (disk_of old) (disk_of new) x n a.node
@@ -67,7 +67,7 @@ pub record CallRefines {D T : Type 0} (g : Ghosts D) (old new : Node D g) (x : �
 -- node x, which refined machine n, ends a step as the machine does in this answer to an input
 abbrev pub StepEnds : {D : Type 0} → (g : Ghosts D) → (old new : Node D g) → Result Output Stop
     → ℕ →
-    Machine → Input → Answer BatchContent → Type 0
+    Machine → Input → Answer Edits → Type 0
 StepEnds g old new result x n input a = NodeRefines g.is_honest g.state old x n →
     CallRefines g old new x n a (StepRefines g.is_honest g.state new x input a) result
 
@@ -84,7 +84,7 @@ pub record KeepsNode {D T : Type 0} (g : Ghosts D) (old new : Node D g) (result 
 -- A rule was followed: the node is kept, and it ends the step of each input that the rule is for as
 -- the machine does in the rule's answer.
 pub record FollowsRule {D : Type 0} (g : Ghosts D) (old new : Node D g)
-    (is_for : Machine → Input → Type 0) (rule : ℕ → Machine → Answer BatchContent)
+    (is_for : Machine → Input → Type 0) (rule : ℕ → Machine → Answer Edits)
     (result : Result Output Stop) : Type 0 where
   pub kept : KeepsNode g old new result
   pub ends : (x : ℕ) (n : Machine) (input : Input) → is_for n input →

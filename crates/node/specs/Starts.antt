@@ -7,8 +7,8 @@ use Rattle.chain_model.specs.{started}
 use Rattle.chain_core.specs.{Core, CoreRefines, IsAtStart, Machine}
 use Rattle.engine.specs.declared.Engine.{Engine}
 use Rattle.engine.specs.{LookUps}
-use Rattle.engine.specs.{EngineHolds, IsDamaged, IsNotCreated, IsOpened, IsOwned, facts_of}
-use Rattle.engine.specs.{look_ups}
+use Rattle.engine.specs.{EngineHolds, IsDamaged, IsNotCreated, IsOldStore, IsOpened, IsOwned}
+use Rattle.engine.specs.{facts_of, look_ups}
 use Rattle.node.specs.declared.node.Node.{Node}
 use Rattle.node.specs.declared.stop.Stop.{Stop}
 use Rattle.node.specs.declared.stop.Stop.TheVariants as stop
@@ -25,6 +25,7 @@ StartRefusal stop.Disk left = Unit {0}
 StartRefusal stop.Damaged left = IsDamaged left
 StartRefusal stop.Memory left = Unit {0}
 StartRefusal stop.NotCreated left = IsNotCreated left
+StartRefusal stop.OldFormat left = IsOldStore left
 
 -- The state that a node starts with has just begun with the numbers of its store and this
 -- configuration. It refines, as started, each machine that has these numbers and this

@@ -3,7 +3,7 @@
 use Rattle.std.specs.Prelude.{◌≡◌, ◌⊎◌, ℕ, List, [], ◌∷◌, length}
 use Rattle.std.specs.List.{flat_map}
 use Rattle.kv_types.specs.declared.Limits.{Limits}
-use Rattle.kv_types.specs.{BatchContent, map_of}
+use Rattle.kv_types.specs.{BatchContent, Edits, map_of}
 use Rattle.kv_types.specs.Pages.{page_of}
 use Rattle.disk.specs.declared.Disk.{Ghosts}
 use Rattle.disk.specs.{State, Contents, IsCrashOutcome}
@@ -135,7 +135,7 @@ shown_for (input.Notice epoch ids) i s batches = []
 shown_for input.Tick i s batches = []
 
 -- the reply to a client for a reply of the machine
-abbrev pub replies_to_response : Input → model.Response BatchContent → List Reply
+abbrev pub replies_to_response : Input → model.Response Edits → List Reply
 replies_to_response input (Response.Committed i k) = reply.Committed i k ∷ []
 replies_to_response input (Response.Shows i s batches) = shown_for input i s batches
 replies_to_response input (Response.Opened i s) = reply.Opened i s ∷ []
@@ -143,17 +143,17 @@ replies_to_response input (Response.Closed i s) = reply.Closed i s ∷ []
 replies_to_response input (Response.Refused i why) = reply.Refused i why ∷ []
 
 -- the replies to clients for those of the machine, in order
-abbrev pub replies_of : Input → List (model.Response BatchContent) → List Reply
+abbrev pub replies_of : Input → List (model.Response Edits) → List Reply
 replies_of input replies = flat_map (replies_to_response input) replies
 
 -- these replies are those of the machine to an input
-abbrev pub AreReplies : Input → List (model.Response BatchContent) → List Reply → Type 0
+abbrev pub AreReplies : Input → List (model.Response Edits) → List Reply → Type 0
 AreReplies input of_machine replies = replies ≡ replies_of input of_machine
 
 -- A node that answered refines the machine after the step. Its drop, frames and replies are those
 -- of the machine.
 pub record StepRefines {D : Type 0} {g : Ghosts D} (is_honest : D → Type 0) (state : D → State)
-    (new : Node D g) (x : ℕ) (input : Input) (a : model.Answer BatchContent)
+    (new : Node D g) (x : ℕ) (input : Input) (a : model.Answer Edits)
     (output : Output) : Type 0 where
   pub runs : NodeRefines is_honest state new x a.node
   pub dropped : output.dropped ≡ a.dropped
@@ -161,5 +161,5 @@ pub record StepRefines {D : Type 0} {g : Ghosts D} (is_honest : D → Type 0) (s
   pub replied : AreReplies input a.replies output.replies
 
 -- The disk of a node that stopped in a step represents the machine before the step or after it.
-abbrev pub StopRefines : State → ℕ → Machine → model.Answer BatchContent → Type 0
+abbrev pub StopRefines : State → ℕ → Machine → model.Answer Edits → Type 0
 StopRefines disk x n a = DiskRefinesOneOf disk x n a.node

@@ -11,6 +11,7 @@ engine_stop engine.Disk = stop.Disk
 engine_stop engine.Damaged = stop.Damaged
 engine_stop engine.Memory = stop.Memory
 engine_stop engine.NotCreated = stop.NotCreated
+engine_stop engine.OldFormat = stop.OldFormat
 engine_stop engine.Failed = stop.Damaged
 engine_stop engine.TooOld = stop.Damaged
 engine_stop engine.NotCommitted = stop.Damaged
@@ -18,6 +19,6 @@ engine_stop engine.NoSuchSnapshot = stop.Damaged
 engine_stop engine.TooManySnapshots = stop.Damaged
 engine_stop engine.Exhausted = stop.Damaged
 
--- a cause for which a node ends that was created: any but `NotCreated`
+-- a cause for which a node ends that was created or started: neither `NotCreated` nor `OldFormat`
 abbrev pub EndsCreated : Stop → Type 0
-EndsCreated cause = cause ≡ stop.NotCreated → ⊥
+EndsCreated cause = (cause ≡ stop.NotCreated → ⊥) × (cause ≡ stop.OldFormat → ⊥)

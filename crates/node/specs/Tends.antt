@@ -1,6 +1,6 @@
 -- A tend of a node: what has risen by the facts that its store tells, and the machine's answer.
 use Rattle.std.specs.Prelude.{ℕ, Bool, true, Result, MatchResult, nat_lt, ◌||◌}
-use Rattle.kv_types.specs.{BatchContent}
+use Rattle.kv_types.specs.{Edits}
 use Rattle.disk.specs.declared.Disk.{Ghosts}
 use Rattle.chain_model.specs.{Answer}
 use Rattle.chain_model.specs.Rules.{tend}
@@ -20,7 +20,7 @@ has_risen old new = nat_lt old.floor new.floor || nat_lt old.kept new.kept
 
 -- The answer of machine n of node x to a tend, after which the store tells these facts: if they
 -- have risen the machine raises its floor, and gives up what they say.
-abbrev pub answer_to_tend : ℕ → Machine → Facts → Answer BatchContent
+abbrev pub answer_to_tend : ℕ → Machine → Facts → Answer Edits
 answer_to_tend x n facts = tend n (has_risen (facts_for x n) facts) facts.kept
 
 -- A node that was machine n tends as that does, by the facts that it tells then. Its store did the

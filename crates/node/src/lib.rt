@@ -1,6 +1,7 @@
 //! One node of a chain: a store on a disk, and the rules of a step over it.
 #![tactic(auto)]
 
+mod asking;
 pub mod laws;
 mod node;
 mod numbers;

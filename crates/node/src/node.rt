@@ -13,6 +13,7 @@ ghost use Rattle.node.specs.Steps.{node_core, node_limits};
 ghost use Rattle.node.specs.Outputs.{KeepsNode, StepEnds};
 ghost use Rattle.node.specs.Tends.{TendRefines, TendsOwnStore};
 
+use crate::asking::held_for;
 use crate::{Numbers, Output, Stop};
 use chain_core::{CoreState, Input, decide};
 use configurations::{Config, Epoch, NodeId};
@@ -39,7 +40,8 @@ impl<D: Disk + Drop> Node<D> {
         ensures ends { (x : ℕ) (n : Machine) →
             StepEnds D.Disk self.old self.new result x n input (answer_to x n input) }
     {
-        let decision = decide(&self.core, input);
+        let held = held_for(alloc, &mut self.engine, &input)?;
+        let decision = decide(&self.core, input, held);
         self.perform(alloc, decision)
     }
 

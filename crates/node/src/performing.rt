@@ -1,5 +1,5 @@
 // The execution of a decision: what a node does by each rule of a step.
-ghost use Rattle.std.specs.Prelude.{◌≡◌, ◌<◌, IfErr, IsTrue, MatchResult};
+ghost use Rattle.std.specs.Prelude.{◌≡◌, ◌<◌, ◌≤◌, IfErr, IsTrue, MatchResult};
 ghost use Rattle.disk.specs.{IsEnvironmental};
 ghost use Rattle.kv_types.specs.declared.bounds.TheConstants.{MAX_NUMBER};
 ghost use Rattle.chain_model.specs.{forwards};
@@ -71,6 +71,21 @@ impl<D: Disk + Drop> Node<D> {
         let due = self.core.after(alloc, done)?;
         self.engine.set_committed(self.core.committed());
         output_of_append(alloc, &self.core, batch, acks, &due).map_err(Stop::from)
+    }
+
+    // Answers a request that submits again the batch of a number, where it is committed, and else
+    // lets it wait.
+    #[inline(never)]
+    fn repeat(&mut self, alloc: Global, request: Number, number: Number) -> Result<Output, Stop>
+        requires may { IsReady self.old }
+        requires there { number ≤ self.old.core.count }
+        ensures disk { disk_of self.new ≡ disk_of self.old }
+        ensures followed { ExecutesDecision D.Disk self.old self.new
+            (Decision.Repeat request number) result }
+    {
+        steps_leave(); // law: what a step leaves of the machine
+        let due = self.core.after(alloc, Done::Repeated { request, number })?;
+        output_of(alloc, &self.core, SentFrames::new(), false, &due).map_err(Stop::from)
     }
 
     // Applies the successor's report, and reports to the predecessor if more is committed.
@@ -179,6 +194,7 @@ impl<D: Disk + Drop> Node<D> {
             Decision::Accept { request, batch } => {
                 self.append(alloc, batch, Done::Accepted { request })
             }
+            Decision::Repeat { request, number } => self.repeat(alloc, request, number),
             Decision::Append { batch } => self.append(alloc, batch, Done::Appended),
             Decision::AckDuplicate => ack_duplicate(alloc, &self.core).map_err(Stop::from),
             Decision::OnAck { committed, have } => self.on_ack(alloc, committed, have),

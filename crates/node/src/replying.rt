@@ -1,7 +1,7 @@
 // The output of a step, from a node's numbers and the results of its store.
 ghost use Rattle.std.specs.Prelude.{◌≡◌, ℕ, [], ◌∷◌, ◌++◌, List, map, take, Option};
 ghost use Rattle.std.specs.Prelude.{IfOk, OnOk, option_to_list, if◌then◌else◌, Some};
-ghost use Rattle.kv_types.specs.{BatchContent, Span, map_of, place};
+ghost use Rattle.kv_types.specs.{Edits, Span, map_of, place};
 ghost use Rattle.kv_types.specs.Pages.{page_of};
 ghost use Rattle.configurations.specs.{is_tail};
 ghost use Rattle.chain_model.specs.{Message, dropped_for, refused, ack, forward};
@@ -73,7 +73,7 @@ pub(crate) fn output_of(
     acks: bool,
     due: &[PendingSubmit],
 ) -> Result<Output, AllocError>
-    ensures { (n : Machine) (frames : List (Message BatchContent)) → CoreRefines core.now n →
+    ensures { (n : Machine) (frames : List (Message Edits)) → CoreRefines core.now n →
         AreFrames sent frames →
         IfOk result (OutputHas None (frames ++ (if acks then ack core.now.id n else []))
         (map committed_reply due.now)) }

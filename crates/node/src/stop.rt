@@ -21,6 +21,9 @@ pub enum Stop {
     /// No node was created on this disk.
     #[error("not created")]
     NotCreated,
+    /// The disk has a node's files of the old format.
+    #[error("old format")]
+    OldFormat,
 }
 
 impl From<EngineError> for Stop {
@@ -33,6 +36,7 @@ impl From<EngineError> for Stop {
             EngineError::Damaged => Stop::Damaged,
             EngineError::Memory => Stop::Memory,
             EngineError::NotCreated => Stop::NotCreated,
+            EngineError::OldFormat => Stop::OldFormat,
             EngineError::Failed
             | EngineError::TooOld
             | EngineError::NotCommitted

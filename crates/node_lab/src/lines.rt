@@ -70,7 +70,7 @@ fn put_value(
 fn put_rows(text: &mut String, request: Number, page: &Page) -> Result<(), AllocError> {
     let request = request.get();
     for row in page.rows() {
-        let (key, value) = (text_of(row.key().as_bytes()), text_of(row.value()));
+        let (key, value) = (text_of(row.key()), text_of(row.value()));
         writeln!(text, "{request}: row {key}={value}")?;
     }
     Ok(())

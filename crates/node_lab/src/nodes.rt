@@ -73,7 +73,14 @@ fn put_cause(text: &mut String, line: u64, cause: Stop) -> Result<(), AllocError
 
 // Puts each cause for which a node may end.
 fn put_causes(text: &mut String, line: u64) -> Result<(), AllocError> {
-    for cause in [Stop::Disk, Stop::Damaged, Stop::Memory, Stop::NotCreated] {
+    let causes = [
+        Stop::Disk,
+        Stop::Damaged,
+        Stop::Memory,
+        Stop::NotCreated,
+        Stop::OldFormat,
+    ];
+    for cause in causes {
         put_cause(text, line, cause)?;
     }
     Ok(())

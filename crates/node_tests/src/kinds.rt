@@ -93,7 +93,7 @@ static FAULT_NUMBERS: [u8; 5] = [
 ];
 
 /// The numbers of the refusals.
-static REFUSAL_NUMBERS: [u8; 8] = [
+static REFUSAL_NUMBERS: [u8; 9] = [
     Refusal::NotRunning as u8,
     Refusal::NotHead as u8,
     Refusal::TooOld as u8,
@@ -102,12 +102,13 @@ static REFUSAL_NUMBERS: [u8; 8] = [
     Refusal::TooManySnapshots as u8,
     Refusal::Removed as u8,
     Refusal::Exhausted as u8,
+    Refusal::OldRequest as u8,
 ];
 
 #[test]
 fn faults_and_refusals_have_their_numbers(rt: HostRuntime) {
     let are_so = FAULT_NUMBERS == [1, 2, 3, 4, 5];
     is_so(&rt, are_so, "other numbers of faults");
-    let are_so = REFUSAL_NUMBERS == [1, 2, 3, 4, 5, 6, 7, 8];
+    let are_so = REFUSAL_NUMBERS == [1, 2, 3, 4, 5, 6, 7, 8, 9];
     is_so(&rt, are_so, "other numbers of refusals");
 }

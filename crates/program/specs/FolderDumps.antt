@@ -31,8 +31,9 @@ pub record IsDumpOfFolder {R : Type 0} (g : Ghosts (Unchanged (DirDisk R))) (pat
   pub written : WritesStoreOf g disk old_out new_out
 
 -- It was read from such a disk, and a beginning of its text was written. A failure of the disk was
--- counted exactly where this failure is the device's. Where it is that no store was created,
--- nothing was written; and the text ends at the end of a line, unless the output took no more.
+-- counted exactly where this failure is the device's. Where it is that no store was created, or one
+-- of the old format, nothing was written; and the text ends at the end of a line, unless the output
+-- took no more.
 pub record IsBegunOfFolder {R : Type 0} (g : Ghosts (Unchanged (DirDisk R))) (path : List ℕ)
     (old_out new_out : Option (List ℕ)) (failure : DumpFailure) : Type 0 where
   pub disk : Unchanged (DirDisk R)

@@ -3,10 +3,11 @@ use Rattle.std.proofs.Common.{◌≡◌, ◌≤◌, ◌⊎◌, ◌↔◌, ℕ, L
 use Rattle.std.proofs.Common.{Bool, IsTrue}
 use Rattle.std.specs.declared.cmp.Ordering.{Ordering}
 use Rattle.std.specs.Ordering.{is_lt, nat_cmp, ordering_then}
+use Rattle.byte_fields.specs.Order.{IsBelow}
+use Rattle.byte_fields.specs.ByteOrderLemmas.{Less-below, below_is_strict, lt_below, not_below}
+use Rattle.byte_fields.specs.{stored_cmp}
 use Rattle.kv_types.specs.declared.bounds.TheConstants.{MAX_NUMBER}
-use Rattle.kv_types.specs.Order.{IsBelow}
-use Rattle.kv_types.specs.ByteOrderLemmas.{Less-below, below_is_strict, lt_below, not_below}
-use Rattle.kv_types.specs.{Entry, stored_cmp}
+use Rattle.kv_types.specs.{Entry}
 use Rattle.merge_iter.specs.declared.Direction.{Direction}
 use Rattle.merge_iter.specs.declared.Direction.TheVariants.{Forward, Backward}
 use Rattle.merge_iter.specs.EntryOrder.{never, not_both}

@@ -1,9 +1,9 @@
 -- The entry at which a walk over a range begins.
-use Rattle.std.proofs.Common.{◌≡◌, ◌⊎◌, ◌↔◌, ℕ, List, inl, inr, sym, subst, Option, Some, None}
+use Rattle.std.proofs.Common.{◌≡◌, ◌⊎◌, ◌↔◌, ℕ, List, inl, inr, sym, subst, Option, Some}
 use Rattle.std.proofs.Common.{Bool, true, false, IfSome, OnOk, Ok, Err, Result}
+use Rattle.byte_fields.specs.Order.{IsBelow}
+use Rattle.byte_fields.specs.ByteOrderLemmas.{below_is_strict}
 use Rattle.kv_types.specs.declared.bounds.TheConstants.{MAX_NUMBER}
-use Rattle.kv_types.specs.Order.{IsBelow}
-use Rattle.kv_types.specs.ByteOrderLemmas.{below_is_strict}
 use Rattle.kv_types.specs.{Entry, Span}
 use Rattle.merge_iter.specs.declared.CursorError.{CursorError}
 use Rattle.merge_iter.specs.declared.Direction.TheVariants.{Forward, Backward}
@@ -127,15 +127,6 @@ module _ {R : Type 0} (entries : Entry → Type 0) (range : Span) (result : Resu
       → OnOk result (IsFirst Backward (λ e. entries e × IsBelow e.key key) at)
       → WalkBeginsAt entries range backward result at
   begins_below backward key back bound h =
-      subst (λ b. WalkBeginsAt entries range b result at) (sym back)
-      (subst (λ (to : Option (List ℕ)). OnOk result (IsFirst Backward
-      (λ e. entries e × IfSome to (λ t. IsBelow e.key t)) at)) (sym bound) h)
-
-  -- a walk back without a bound begins at the last entry
-  pub begins_last : (backward : Bool) → backward ≡ true → range.to ≡ None
-      → OnOk result (IsFirst Backward (λ e. entries e × Unit {0}) at)
-      → WalkBeginsAt entries range backward result at
-  begins_last backward back bound h =
       subst (λ b. WalkBeginsAt entries range b result at) (sym back)
       (subst (λ (to : Option (List ℕ)). OnOk result (IsFirst Backward
       (λ e. entries e × IfSome to (λ t. IsBelow e.key t)) at)) (sym bound) h)

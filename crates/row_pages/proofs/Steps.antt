@@ -3,14 +3,16 @@ use Rattle.std.proofs.Common.{◌≡◌, ◌⊎◌, ℕ, List, [], ◌∷◌, �
 use Rattle.std.proofs.Common.{subst, ◌∙◌, Bool, true, false, Option, Some, None, OnOk, Ok, Err}
 use Rattle.std.proofs.Common.{Result, append_assoc, IfSome, arith}
 use Rattle.std.specs.Prelude.{IsSome}
+use Rattle.byte_fields.specs.Order.{IsBelow}
+use Rattle.byte_fields.specs.ByteOrderLemmas.{below_is_strict}
+use Rattle.byte_fields.specs.{StoredKey, row_key}
 use Rattle.kv_types.specs.{Row}
 use Rattle.kv_types.specs.declared.bounds.TheConstants.{MAX_PAGE}
-use Rattle.kv_types.specs.Order.{IsBelow}
 use Rattle.kv_types.specs.Pages.{IsPage, IsRowOf, IsWalk, IsWithin, Map, PrecedesRow}
-use Rattle.kv_types.specs.ByteOrderLemmas.{below_is_strict}
 use Rattle.kv_types.specs.OrderLemmas.{Among, among_from_Contains, among_of_All}
 use Rattle.kv_types.specs.OrderLemmas.{Rises, rises_from_AllPairs}
-use Rattle.kv_types.specs.{Entry, KeepsLimits, Span}
+use Rattle.kv_types.specs.SpansLemmas.{row_key-below, row_within, within_row}
+use Rattle.kv_types.specs.{Entry, KeepsLimits, Span, stored_span}
 use Rattle.merge_iter.specs.declared.CursorError.{CursorError}
 use Rattle.merge_iter.specs.declared.Direction.{Direction}
 use Rattle.merge_iter.specs.declared.Direction.TheVariants.{Forward, Backward}
@@ -26,9 +28,9 @@ use Rattle.row_pages.proofs.Orders.{entry_before, key_before, key_cases, key_cha
 -- ---- rows of a walk
 
 key_of_row : (backward : Bool) (a b : Row) → PrecedesRow backward a b
-    → KeyIsBefore (way_of backward) a.key b.key
-key_of_row false a b h = h
-key_of_row true a b h = h
+    → KeyIsBefore (way_of backward) (row_key a.key) (row_key b.key)
+key_of_row false a b h = row_key-below a.key b.key h
+key_of_row true a b h = row_key-below b.key a.key h
 
 among_left : (row : Row) (rows left : List Row) → Among row left → Among row (rows ++ left)
 among_left row [] left a = a
@@ -103,8 +105,12 @@ module _ (map : Map) (range : Span) (entries : Entry → Type 0) (has : HasRowsO
     abbrev way : Direction
     way = way_of range.backward
 
+    -- the stored keys of rows in the range
+    abbrev span : Span
+    span = stored_span range
+
     -- an entry whose key lies in the range is a row
-    pub row_of : (e : Entry) → entries e → IsWithin range e.key
+    pub row_of : (e : Entry) → entries e → IsWithin span e.key
         → (row : Row) × (e ≡ row_entry row e.number) × IsRowOf map range row
     row_of e here within = by_value e.value refl (has.put e here)
       where
@@ -112,16 +118,17 @@ module _ (map : Map) (range : Span) (entries : Entry → Type 0) (has : HasRowsO
             → (row : Row) × (e ≡ row_entry row e.number) × IsRowOf map range row
         by_value None is put = absurd cc
         by_value (Some v) is put =
-            let row : Row = record { key = e.key; value = v } in
+            let key = within_row range e.key within in
+            let row : Row = record { key = key.0; value = v } in
             let same : e ≡ row_entry row e.number =
-            λ i. record { key = e.key; number = e.number; value = is i } in
-            (row, same, ((has.rows row within).1 (e.number, subst entries same here), within))
+            λ i. record { key = key.1 i; number = e.number; value = is i } in
+            (row, same, ((has.rows row key.2).1 (e.number, subst entries same here), key.2))
 
     module _ (ahead : List ℕ → Type 0) (left : List Row)
-        (are_ahead : (row : Row) → Among row left → ahead row.key)
-        (all_left : (row : Row) → IsRowOf map range row → ahead row.key → Among row left)
-        (convex : (key : List ℕ) (row : Row) → Among row left → ahead key
-        → (key ≡ row.key) ⊎ KeyIsBefore way key row.key → IsWithin range key)
+        (are_ahead : (row : Row) → Among row left → ahead (row_key row.key))
+        (all_left : (row : Row) → IsRowOf map range row → ahead (row_key row.key) → Among row left)
+        (convex : (key : StoredKey) (row : Row) → Among row left → ahead key
+        → (key ≡ row_key row.key) ⊎ KeyIsBefore way key (row_key row.key) → IsWithin span key)
         (each : (row : Row) → Among row left → IsRowOf map range row)
         (rises : Rises (PrecedesRow range.backward) left) where
       -- the entry of a row that is left
@@ -132,7 +139,7 @@ module _ (map : Map) (range : Span) (entries : Entry → Type 0) (has : HasRowsO
           → IsFirst way (λ e. entries e × ahead e.key) at → StandsAt range entries [] at
       none_left (On e) none first = λ within.
           let r = row_of e first.0.0 within in
-          let key : e.key ≡ (r.0).key = ap (λ (x : Entry). x.key) r.1 in
+          let key : e.key ≡ row_key (r.0).key = ap (λ (x : Entry). x.key) r.1 in
           subst (Among r.0) none (all_left r.0 r.2 (subst ahead key first.0.1))
       none_left Off none first = tt
       none_left Broken none first = first
@@ -142,18 +149,18 @@ module _ (map : Map) (range : Span) (entries : Entry → Type 0) (has : HasRowsO
       first_left (On e) row more is first =
           let a : Among row left = subst (Among row) (sym is) (inl refl) in
           let own = entry_of_row row a in
-          let not_after : KeyIsBefore way row.key e.key → ⊥ = λ h.
+          let not_after : KeyIsBefore way (row_key row.key) e.key → ⊥ = λ h.
           first.1 (row_entry row own.0) (own.1, are_ahead row a)
           (entry_before way (row_entry row own.0) e h)
           in
-          let reached : (e.key ≡ row.key) ⊎ KeyIsBefore way e.key row.key =
-          elim (key_cases way e.key row.key) [
+          let reached : (e.key ≡ row_key row.key) ⊎ KeyIsBefore way e.key (row_key row.key) =
+          elim (key_cases way e.key (row_key row.key)) [
             | inl h ↦ inr h
             | inr other ↦ elim other [ inl same ↦ inl same | inr h ↦ absurd (not_after h) ]
           ]
           in
           let r = row_of e first.0.0 (convex e.key row a first.0.1 reached) in
-          let key : e.key ≡ (r.0).key = ap (λ (x : Entry). x.key) r.1 in
+          let key : e.key ≡ row_key (r.0).key = ap (λ (x : Entry). x.key) r.1 in
           let found : (row ≡ r.0) ⊎ Among r.0 more =
           subst (Among r.0) is (all_left r.0 r.2 (subst ahead key first.0.1)) in
           let up : Rises (PrecedesRow range.backward) (row ∷ more) =
@@ -161,7 +168,7 @@ module _ (map : Map) (range : Span) (entries : Entry → Type 0) (has : HasRowsO
             first.0.0,
             elim found [
               | inl same ↦ r.1 ∙ ap (λ x. row_entry x e.number) (sym same)
-              | inr b ↦ absurd (not_after (subst (KeyIsBefore way row.key) (sym key)
+              | inr b ↦ absurd (not_after (subst (KeyIsBefore way (row_key row.key)) (sym key)
                   (key_of_row range.backward row r.0 (up.0 r.0 b))))
             ],
           )
@@ -182,6 +189,9 @@ module _ (map : Map) (range : Span) (entries : Entry → Type 0) (has : HasRowsO
       rows_of_walk : (row : Row) → Among row walk → IsRowOf map range row
       rows_of_walk row a = among_of_All (IsRowOf map range) walk row is.each a
 
+      in_span : (row : Row) → Among row walk → IsWithin span (row_key row.key)
+      in_span row a = row_within range row.key (rows_of_walk row a).1
+
       in_walk : (row : Row) → IsRowOf map range row → Among row walk
       in_walk row h = among_from_Contains walk row (is.all row h)
 
@@ -191,24 +201,26 @@ module _ (map : Map) (range : Span) (entries : Entry → Type 0) (has : HasRowsO
       -- the first entry of the range is that of the first row
       pub begun : {R : Type 0} (result : Result R CursorError) (x : R) (at : Position)
           → result ≡ Ok x
-          → OnOk result (IsFirst way (λ e. entries e × HasBegun way range e.key) at)
+          → OnOk result (IsFirst way (λ e. entries e × HasBegun way span e.key) at)
           → ReadsUpTo range entries walk [] at
       begun (Err e) x at ok first = absurd cc
       begun (Ok y) x at ok first = record {
         left = walk;
         parts = refl;
-        stands = stands (HasBegun way range) walk
-            (λ row a. begun_of way range row.key (rows_of_walk row a).1)
+        stands = stands (HasBegun way span) walk
+            (λ row a. begun_of way span (row_key row.key) (in_span row a))
             (λ row h begun. in_walk row h)
             (λ key row a begun reached.
-            within_from way range row.key key row.key begun (rows_of_walk row a).1 reached)
+            within_from way span (row_key row.key) key (row_key row.key) begun (in_span row a)
+            reached)
             rows_of_walk rises_walk at walk refl first;
         fits = (omega arith, omega arith);
       }
 
       -- behind the entry of a row stands that of the next
       next_row : (rows : List Row) (row : Row) (left : List Row) → walk ≡ rows ++ row ∷ left
-          → (at : Position) → IsFirst way (λ e. entries e × KeyIsBefore way row.key e.key) at
+          → (at : Position)
+          → IsFirst way (λ e. entries e × KeyIsBefore way (row_key row.key) e.key) at
           → StandsAt range entries left at
       next_row rows row left parts at first =
           let all : Rises (PrecedesRow range.backward) (rows ++ row ∷ left) =
@@ -217,25 +229,28 @@ module _ (map : Map) (range : Span) (entries : Entry → Type 0) (has : HasRowsO
           rises_left (PrecedesRow range.backward) rows (row ∷ left) all in
           let each : (r : Row) → Among r (row ∷ left) → IsRowOf map range r = λ r a.
           rows_of_walk r (subst (Among r) (sym parts) (among_left r rows (row ∷ left) a)) in
-          let later : (r : Row) → Among r left → KeyIsBefore way row.key r.key = λ r a.
-          key_of_row range.backward row r (up.0 r a) in
-          stands (KeyIsBefore way row.key) left later
+          let within : (r : Row) → Among r (row ∷ left) → IsWithin span (row_key r.key) = λ r a.
+          row_within range r.key (each r a).1 in
+          let later : (r : Row) → Among r left → KeyIsBefore way (row_key row.key) (row_key r.key) =
+          λ r a. key_of_row range.backward row r (up.0 r a) in
+          stands (KeyIsBefore way (row_key row.key)) left later
           (λ r h after. elim
           (among_parts r rows (row ∷ left) (subst (Among r) parts (in_walk r h))) [
-            | inl a ↦ absurd (key_never way r.key (key_chain way r.key row.key r.key
+            | inl a ↦ absurd (key_never way (row_key r.key) (key_chain way (row_key r.key)
+                (row_key row.key) (row_key r.key)
                 (key_of_row range.backward r row
                 (rises_between (PrecedesRow range.backward) rows (row ∷ left) all r row a
                 (inl refl)))
                 after))
             | inr b ↦ elim b [
-              | inl same ↦ absurd (key_never way r.key
-                  (subst (λ (x : Row). KeyIsBefore way x.key r.key) same after))
+              | inl same ↦ absurd (key_never way (row_key r.key)
+                  (subst (λ (x : Row). KeyIsBefore way (row_key x.key) (row_key r.key)) same after))
               | inr a ↦ a
             ]
           ])
-          (λ key r a after reached. within_from way range row.key key r.key
-          (begun_after way range row.key key (each row (inl refl)).1 after)
-          (each r (inr a)).1 reached)
+          (λ key r a after reached. within_from way span (row_key row.key) key (row_key r.key)
+          (begun_after way span (row_key row.key) key (within row (inl refl)) after)
+          (within r (inr a)) reached)
           (λ r a. each r (inr a)) up.1 at left refl first
 
       -- the entry on which the cursor stands within the range is that of the next row
@@ -247,7 +262,7 @@ module _ (map : Map) (range : Span) (entries : Entry → Type 0) (has : HasRowsO
         pub of_row : e ≡ row_entry row e.number
         pub fits : KeepsLimits range.limit MAX_PAGE rows
 
-      pub next_of : (rows : List Row) (e : Entry) → IsWithin range e.key
+      pub next_of : (rows : List Row) (e : Entry) → IsWithin span e.key
           → ReadsUpTo range entries walk rows (On e) → IsNext rows e
       next_of rows e within r = by_left r.left r.parts r.stands
         where
@@ -280,10 +295,10 @@ module _ (map : Map) (range : Span) (entries : Entry → Type 0) (has : HasRowsO
           let n = next_of rows e within r in
           let row = n.row in
           let added = added_row rows new true e row n.of_row adds in
-          let key : e.key ≡ row.key = ap (λ (z : Entry). z.key) n.of_row in
-          let first : IsFirst way (λ p. entries p × KeyIsBefore way row.key p.key) at =
+          let key : e.key ≡ row_key row.key = ap (λ (z : Entry). z.key) n.of_row in
+          let first : IsFirst way (λ p. entries p × KeyIsBefore way (row_key row.key) p.key) at =
           same_first way (λ p. now p × EntryPrecedes way e p)
-          (λ p. entries p × KeyIsBefore way row.key p.key) at
+          (λ p. entries p × KeyIsBefore way (row_key row.key) p.key) at
           (λ p. (
             (λ h. let there = (alike p).0 h.0 in (
               there,
@@ -346,8 +361,8 @@ module _ (map : Map) (range : Span) (entries : Entry → Type 0) (has : HasRowsO
           by_left (row ∷ more) (On e) beyond parts stands =
               let a : Among row walk = subst (Among row) (sym parts)
               (among_left row rows (row ∷ more) (inl refl)) in
-              let key : e.key ≡ row.key = ap (λ (z : Entry). z.key) stands.1 in
-              absurd (beyond (subst (IsWithin range) (sym key) (rows_of_walk row a).1))
+              let key : e.key ≡ row_key row.key = ap (λ (z : Entry). z.key) stands.1 in
+              absurd (beyond (subst (IsWithin span) (sym key) (in_span row a)))
           by_left (row ∷ more) Off beyond parts stands = absurd stands
           by_left (row ∷ more) Broken beyond parts stands = absurd stands
 

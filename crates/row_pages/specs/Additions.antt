@@ -2,6 +2,7 @@
 use Rattle.std.specs.Prelude.{◌≡◌, ◌+◌, ◌<◌, ◌≤◌, ℕ, List, [], ◌∷◌, ◌++◌, length, Bool, true, false}
 use Rattle.std.specs.Prelude.{IfSome}
 use Rattle.std.specs.List.{sum_by}
+use Rattle.byte_fields.specs.{bytes_of}
 use Rattle.kv_types.specs.{Row}
 use Rattle.kv_types.specs.declared.bounds.TheConstants.{MAX_PAGE}
 use Rattle.kv_types.specs.{Entry, KeepsLimits, row_size}
@@ -21,4 +22,4 @@ AddsRow limit old row new false =
 abbrev pub AddsRowOf : ℕ → List Row → Entry → List Row → Bool → Type 0
 AddsRowOf limit old entry new added =
     IfSome entry.value
-    (λ value. AddsRow limit old (record { key = entry.key; value = value }) new added)
+    (λ value. AddsRow limit old (record { key = bytes_of entry.key; value = value }) new added)

@@ -4,10 +4,11 @@ use Rattle.std.proofs.Common.{arith}
 use Rattle.std.specs.declared.cmp.Ordering.TheVariants.{Equal}
 use Rattle.std.specs.Ordering.{nat_cmp, ordering_then}
 use Rattle.std.specs.Cmp.{tied_itself}
+use Rattle.byte_fields.specs.{row_key, stored_cmp}
 use Rattle.kv_types.specs.{Row}
 use Rattle.kv_types.specs.declared.bounds.TheConstants.{MAX_NUMBER}
 use Rattle.kv_types.specs.Pages.{IsPage, Map}
-use Rattle.kv_types.specs.{Entry, IsNewest, IsShown, Rows, Span, ViewShows, stored_cmp}
+use Rattle.kv_types.specs.{Entry, IsNewest, IsShown, Rows, Span, ViewShows}
 use Rattle.merge_iter.specs.{IsAlike, IsApart, entry_cmp, entry_total}
 use Rattle.row_pages.specs.Rows.{HasRowsOf, HasWalk, row_entry}
 
@@ -32,14 +33,15 @@ module _ (at : ℕ) (entries : Entry → Type 0) (apart : IsApart entries) where
       apart a b m.seen.0 n.seen.0 tied
 
   module _ (shown : Entry → Type 0) (alike : IsAlike shown (IsShown at entries)) (map : Map)
-      (view : (key : List ℕ) → ViewShows at entries key (map key)) where
+      (view : (key : List ℕ) → ViewShows at entries (row_key key) (map key)) where
     shown_row : (row : Row) → map row.key ≡ Some row.value
         → (number : ℕ) × shown (row_entry row number)
     shown_row row is = elim (view row.key) [
       | inl newest ↦
           let number = newest.0 in
           let put : IsNewest at entries (row_entry row number) =
-          subst (λ v. IsNewest at entries (record { key = row.key; number = number; value = v }))
+          subst (λ v.
+          IsNewest at entries (record { key = row_key row.key; number = number; value = v }))
           is newest.1 in
           (number, (alike (row_entry row number)).1 (record { newest = put; put = refl }))
       | inr unseen ↦ let z : None ≡ Some row.value = sym unseen.1 ∙ is in absurd cc
@@ -52,7 +54,7 @@ module _ (at : ℕ) (entries : Entry → Type 0) (apart : IsApart entries) where
         elim (view row.key) [
           | inl newest ↦ ap (λ (e : Entry). e.value)
               (newest_single
-              (record { key = row.key; number = newest.0; value = map row.key })
+              (record { key = row_key row.key; number = newest.0; value = map row.key })
               (row_entry row number) newest.1 own refl)
           | inr unseen ↦ absurd (unseen.0 (row_entry row number) own.seen refl)
         ]

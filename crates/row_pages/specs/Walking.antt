@@ -1,10 +1,10 @@
 -- Where a walk over a range begins, and where it stands.
 use Rattle.std.specs.Prelude.{◌≡◌, ◌⊎◌, ◌≤◌, ◌++◌, ℕ, List, [], ◌∷◌, Bool, true, false, IfSome}
+use Rattle.byte_fields.specs.Order.{IsBelow}
 use Rattle.kv_types.specs.{Row}
 use Rattle.kv_types.specs.declared.bounds.TheConstants.{MAX_NUMBER, MAX_PAGE}
-use Rattle.kv_types.specs.Order.{IsBelow}
 use Rattle.kv_types.specs.Pages.{IsWithin}
-use Rattle.kv_types.specs.{Entry, KeepsLimits, Span}
+use Rattle.kv_types.specs.{Entry, KeepsLimits, Span, stored_span}
 use Rattle.merge_iter.specs.declared.Direction.{Direction}
 use Rattle.merge_iter.specs.declared.Direction.TheVariants.{Forward, Backward}
 use Rattle.merge_iter.specs.{Broken, Off, On, Position}
@@ -29,15 +29,15 @@ HasBegun Backward range key = IfSome range.to (λ to. IsBelow key to)
 abbrev pub AreNumbered : (Entry → Type 0) → Type 0
 AreNumbered entries = (entry : Entry) → entries entry → entry.number ≤ MAX_NUMBER
 
--- the position is an entry whose key lies in the range
+-- the position is the entry of a row in the range
 abbrev pub StandsWithin : Span → Position → Type 0
-StandsWithin range (On entry) = IsWithin range entry.key
+StandsWithin range (On entry) = IsWithin (stored_span range) entry.key
 StandsWithin range Off = ⊥
 StandsWithin range Broken = ⊥
 
 -- the position is the entry of the first of these rows; where there is none it is beyond the range
 abbrev pub StandsAt : Span → (Entry → Type 0) → List Row → Position → Type 0
-StandsAt range entries [] (On entry) = IsWithin range entry.key → ⊥
+StandsAt range entries [] (On entry) = IsWithin (stored_span range) entry.key → ⊥
 StandsAt range entries [] Off = Unit {0}
 StandsAt range entries [] Broken = ⊥
 StandsAt range entries (row ∷ left) (On entry) =

@@ -1,12 +1,12 @@
 //! The rows of a page while it is read, within the limits of an answer.
 ghost use Rattle.std.specs.Prelude.{◌≡◌, ◌↔◌, ◌+◌, ◌≤◌, [], length, IfOk, IsTrue};
-ghost use Rattle.kv_types.specs.declared.bounds.TheConstants.{MAX_KEY, MAX_PAGE, MAX_VALUE};
-ghost use Rattle.kv_types.specs.declared.bounds.TheConstants.{ROW_OVERHEAD};
-ghost use Rattle.kv_types.specs.{lent_key, row_size};
+ghost use Rattle.byte_fields.specs.declared.stored_key.TheConstants.{MAX_KEY};
+ghost use Rattle.kv_types.specs.declared.bounds.TheConstants.{MAX_PAGE, MAX_VALUE, ROW_OVERHEAD};
+ghost use Rattle.kv_types.specs.{row_size};
 ghost use Rattle.row_pages.specs.Additions.{AddsRow, HasRoom};
 
 use kv_types::bounds::{MAX_PAGE, ROW_OVERHEAD};
-use kv_types::{LentKey, Page, Row};
+use kv_types::{Page, Row};
 use std::alloc::{AllocError, Global};
 use std::marker::Model;
 
@@ -56,13 +56,13 @@ impl PageRows {
         &mut self,
         alloc: Global,
         limit: u32,
-        key: LentKey,
+        key: &[u8],
         value: &[u8],
     ) -> Result<bool, AllocError>
-        requires key { length (lent_key key) ≤ MAX_KEY }
+        requires key { length key.now ≤ MAX_KEY }
         requires value { length value.now ≤ MAX_VALUE }
         ensures { IfOk result (AddsRow limit self.old
-            (record { key = lent_key key.entry; value = value.now }) self.new) }
+            (record { key = key.now; value = value.now }) self.new) }
     {
         let size = size_of_row(key, value);
         if !self.has_room(limit, size) {
@@ -82,10 +82,10 @@ impl PageRows {
 }
 
 // The bytes that a row of this key and value counts in a page.
-fn size_of_row(key: LentKey, value: &[u8]) -> usize
-    requires key { length (lent_key key) ≤ MAX_KEY }
+fn size_of_row(key: &[u8], value: &[u8]) -> usize
+    requires key { length key.now ≤ MAX_KEY }
     requires value { length value.now ≤ MAX_VALUE }
-    ensures { result ≡ row_size (record { key = lent_key key.entry; value = value.now }) }
+    ensures { result ≡ row_size (record { key = key.now; value = value.now }) }
 {
     key.len() + value.len() + ROW_OVERHEAD
 }

@@ -25,7 +25,7 @@ fn add_entry<C: Cursor>(
         (λ entry. AddsRowOf limit page.old entry page.new added)) }
 {
     match cursor.value() {
-        Some(value) => page.add(alloc, limit, cursor.key(), value),
+        Some(value) => page.add(alloc, limit, cursor.key().as_bytes(), value),
         None => Ok(true),
     }
 }

@@ -1,7 +1,8 @@
 //! Walks of a cursor over the entries of a range.
 ghost use Rattle.std.specs.Prelude.{◌↔◌, IsTrue, OnOk};
-ghost use Rattle.kv_types.specs.{lent_key};
-ghost use Rattle.kv_types.specs.Order.{IsBelow};
+ghost use Rattle.byte_fields.specs.{lent_key};
+ghost use Rattle.byte_fields.specs.Order.{IsBelow};
+ghost use Rattle.kv_types.specs.{stored_span};
 ghost use Rattle.kv_types.specs.Pages.{IsWithin};
 ghost use Rattle.kv_types.specs.declared.bounds.TheConstants.{MAX_NUMBER};
 ghost use Rattle.merge_iter.specs.LentCursors.{ShiftsCursor, StepsCursor};
@@ -9,24 +10,22 @@ ghost use Rattle.merge_iter.specs.{CanStep, IsFirst};
 ghost use Rattle.merge_iter.specs.declared.Direction.TheVariants.{Backward};
 ghost use Rattle.row_pages.specs.Walking.{AreNumbered, HasBegun, StandsWithin, way_of};
 
+use byte_fields::LentKey;
+use kv_types::Range;
 use kv_types::bounds::MAX_NUMBER;
-use kv_types::{LentKey, Range};
 use merge_iter::{Cursor, CursorError};
 
-// Whether the key lies in the range.
+// Whether the key is that of a row in the range.
 fn is_within(key: LentKey, range: &Range) -> bool
-    ensures { IsTrue result ↔ IsWithin range.now (lent_key key.entry) }
+    ensures { IsTrue result ↔ IsWithin (stored_span range.now) (lent_key key.entry) }
 {
     if key.cmp(range.from().lent()).is_lt() {
         return false;
     }
-    match range.to() {
-        Some(to) => key.cmp(to.lent()).is_lt(),
-        None => true,
-    }
+    key.cmp(range.end_of_rows()).is_lt()
 }
 
-/// Whether the cursor stands on an entry whose key lies in the range.
+/// Whether the cursor stands on the entry of a row in the range.
 pub fn stands_within<C: Cursor>(cursor: &C, range: &Range) -> bool
     ensures { IsTrue result ↔ StandsWithin range.now (C.position cursor.now) }
 {
@@ -66,15 +65,13 @@ pub fn begin<C: Cursor>(
         AreNumbered (C.holds meant cursor.old source.old) →
         OnOk result (IsFirst (way_of range.now.backward)
         (λ entry. C.holds meant cursor.old source.old entry
-        × HasBegun (way_of range.now.backward) range.now entry.key) (C.position cursor.new)) }
+        × HasBegun (way_of range.now.backward) (stored_span range.now) entry.key)
+        (C.position cursor.new)) }
 {
     if !range.is_backward() {
         return cursor.seek(source, range.from().lent(), MAX_NUMBER);
     }
-    match range.to() {
-        Some(to) => seek_below(cursor, source, to.lent()),
-        None => cursor.last(source),
-    }
+    seek_below(cursor, source, range.end_of_rows())
 }
 
 /// Steps to the next entry of a walk over the range.

@@ -1,26 +1,21 @@
 -- The words of a fault of the disk, at the end of a statement.
-use Rattle.std.specs.Prelude.{◌≡◌, ◌≢◌, ℕ, Bool, false, ◌&&◌, ◌||◌, not, nat_lt}
+use Rattle.std.specs.Prelude.{◌≡◌, ◌≢◌, ℕ, Bool, false, ◌&&◌, ◌||◌, not}
 use Rattle.std.specs.Prelude.{if◌then◌else◌, List, [], ◌∷◌, codes, Option, Some, None}
-use Rattle.std.specs.Prelude.{◌<◌, ◌^◌, Result, Ok, Err}
+use Rattle.std.specs.Prelude.{Result, Ok, Err}
 use Rattle.std.specs.Fmt.{decimal}
 use Rattle.std.specs.Str.{bytes_eq}
-use Rattle.std.specs.Str.Parse.{digits_value}
 use Rattle.disk.specs.declared.fault.Fault.{Fault}
 use Rattle.disk.specs.declared.fault.Fault.TheVariants as disk
 use Rattle.script_words.specs.declared.error.ScriptError.{ScriptError}
 use Rattle.script_words.specs.declared.error.ScriptError.TheVariants.{BadFault, OutOfMemory}
-use Rattle.script_words.specs.Words.{is_number}
+use Rattle.script_words.specs.Words.{IsPositive, is_positive}
 use Rattle.script_words.specs.Junks.{AreBytesOf, IsJunk, is_junk}
 
--- calls are counted from 1
-abbrev pub IsCall : ℕ → Type 0
-IsCall call = (0 < call) × (call < 2 ^ 63)
-
--- a fault of bytes, at a call that a script may name
+-- a fault of bytes, at a call that a script may name; calls are counted from 1
 abbrev pub FaultCanBeSaid : Fault → Type 0
 FaultCanBeSaid disk.None = Unit {0}
-FaultCanBeSaid (disk.Fail call) = IsCall call
-FaultCanBeSaid (disk.Stop call junk) = IsCall call × AreBytesOf junk
+FaultCanBeSaid (disk.Fail call) = IsPositive call
+FaultCanBeSaid (disk.Stop call junk) = IsPositive call × AreBytesOf junk
 
 -- these words spell the fault
 abbrev pub IsFault : Fault → List (List ℕ) → Type 0
@@ -29,16 +24,13 @@ IsFault (disk.Fail call) words = words ≡ codes "!fail" ∷ decimal call ∷ []
 IsFault (disk.Stop call junk) words =
     (word : List ℕ) × IsJunk junk word × (words ≡ codes "!stop" ∷ decimal call ∷ word ∷ [])
 
--- a number from 1
-abbrev pub is_call : List ℕ → Bool
-is_call w = is_number w && nat_lt 0 (digits_value 10 w)
-
 -- !fail K, or !stop K JUNK
 abbrev pub is_fault : List (List ℕ) → Bool
 is_fault [] = false
 is_fault (name ∷ []) = false
-is_fault (name ∷ call ∷ []) = bytes_eq name (codes "!fail") && is_call call
-is_fault (name ∷ call ∷ junk ∷ []) = bytes_eq name (codes "!stop") && is_call call && is_junk junk
+is_fault (name ∷ call ∷ []) = bytes_eq name (codes "!fail") && is_positive call
+is_fault (name ∷ call ∷ junk ∷ []) =
+    bytes_eq name (codes "!stop") && is_positive call && is_junk junk
 is_fault (name ∷ call ∷ junk ∷ more ∷ words) = false
 
 -- a statement of this name may bear a fault

@@ -78,6 +78,14 @@ is_number w =
     all_ascii_digits w && nat_lt 0 (length w) && (not (slice_index w 0 == 48) || (length w == 1))
     && nat_lt (digits_value 10 w) (2 ^ 63)
 
+-- a number from 1 that a script may name
+abbrev pub IsPositive : ℕ → Type 0
+IsPositive n = (0 < n) × (n < 2 ^ 63)
+
+-- whether a word is a number from 1
+abbrev pub is_positive : List ℕ → Bool
+is_positive w = is_number w && nat_lt 0 (digits_value 10 w)
+
 -- a word that begins with ! begins a fault
 abbrev pub begins_fault : List ℕ → Bool
 begins_fault [] = false

@@ -2,8 +2,8 @@
 use Rattle.std.proofs.lemmas.List.Elements.{All-head, All-tail}
 use Rattle.script_words.specs.Words.{AreBytes, are_bytes, begins_fault, bound_text, byte_text}
 use Rattle.script_words.specs.Words.{bytes_text, escaped, hex_value, is_bound, is_byte_string}
-use Rattle.script_words.specs.Words.{is_hex, is_number, is_plain}
-use Rattle.std.specs.Prelude.{IfSome, Option, ◌%◌}
+use Rattle.script_words.specs.Words.{IsPositive, is_hex, is_number, is_plain, is_positive}
+use Rattle.std.specs.Prelude.{IfSome, Option, nat_lt, ◌%◌}
 use Rattle.std.proofs.lemmas.Str.Parse.{IsNumeralModel, numerals_by_value, tells_all_ascii_digits}
 use Rattle.std.proofs.Common.{List, None, Some, ap, arith, false, get_or, inl, inr, length}
 use Rattle.std.proofs.Common.{length-append, refl, suc, true, zero, ℕ, ◌++◌, ◌/◌, ◌<◌, ◌^◌, ◌∙◌}
@@ -63,6 +63,12 @@ number_word n small =
 -- its word has its value
 pub number_back : (n : ℕ) → n < 2 ^ 63 → digits_value 10 (decimal n) ≡ n
 number_back n small = digits_value-decimal numerals n (omega (arith, small))
+
+-- a number from 1 that a script may name is read
+pub positive_word : (n : ℕ) → IsPositive n → is_positive (decimal n) ≡ true
+positive_word n is =
+    let above : nat_lt 0 n ≡ true = grind (arith, nat_tests) in
+    rw (number_word n is.1, number_back n is.1, above) refl
 
 -- a number's word begins no fault
 pub number_faultless : (w : List ℕ) → is_number w ≡ true → begins_fault w ≡ false

@@ -1,15 +1,14 @@
 //! The words of a fault at a statement's end.
 ghost use Rattle.std.specs.Prelude.{◌≡◌, ◌==◌, ◌∷◌, [], true, false, not, map, length, position};
 ghost use Rattle.std.specs.Prelude.{MatchOption, IfOk};
-ghost use Rattle.std.specs.Fmt.{decimal};
 ghost use Rattle.script_words.specs.Words.{begins_fault, has_fault, before_fault, from_fault};
-ghost use Rattle.script_words.specs.FaultWords.{IsCall, FaultCanBeSaid, IsFault, is_call, is_fault};
+ghost use Rattle.script_words.specs.FaultWords.{FaultCanBeSaid, IsFault, is_fault};
 ghost use Rattle.script_words.specs.FaultWords.{may_bear_fault};
 ghost use Rattle.script_words.specs.FaultWords.{ReadsFault};
 
 use crate::error::ScriptError;
 use crate::junk::junk_of;
-use crate::word::number;
+use crate::word::positive_number;
 use disk::Fault;
 use std::alloc::{AllocError, Global};
 
@@ -39,17 +38,6 @@ pub fn split_fault<'a, 'b>(words: &'b [&'a [u8]]) -> (&'b [&'a [u8]], &'b [&'a [
     }
 }
 
-/// The number of a call, from 1.
-fn call_of(word: &[u8]) -> Option<u64>
-    ensures { MatchOption result (is_call word.now ≡ false) (λ call.
-        (is_call word.now ≡ true) × IsCall call × (word.now ≡ decimal call)) }
-{
-    match number(word) {
-        None | Some(0) => None,
-        call => call,
-    }
-}
-
 /// The fault of two words.
 fn fail_of(name: &[u8], call: &[u8]) -> Option<Fault>
     ensures { MatchOption result (is_fault (name.now ∷ call.now ∷ []) ≡ false) (λ fault.
@@ -59,7 +47,7 @@ fn fail_of(name: &[u8], call: &[u8]) -> Option<Fault>
     if name != b"!fail".as_slice() {
         return None;
     }
-    Some(Fault::Fail(call_of(call)?))
+    Some(Fault::Fail(positive_number(call)?))
 }
 
 /// The fault of three words.
@@ -77,7 +65,7 @@ fn stop_of(
     if name != b"!stop".as_slice() {
         return Ok(None);
     }
-    let Some(call) = call_of(call) else {
+    let Some(call) = positive_number(call) else {
         return Ok(None);
     };
     match junk_of(alloc, junk)? {

@@ -21,4 +21,4 @@ pub use limits::{ScriptLimits, limit_of};
 pub use lines::{ScriptLines, ended_line, put_words};
 pub use plain::{is_itself, split_plain};
 pub use range::{RawRange, bounds_of};
-pub use word::{batch_number, bytes_of, number};
+pub use word::{batch_number, bytes_of, number, positive_number};

@@ -5,6 +5,7 @@ ghost use Rattle.std.specs.Fmt.{decimal};
 ghost use Rattle.std.specs.Str.Parse.{digits_value};
 ghost use Rattle.script_words.specs.Words.{AreBytes, byte_text, bytes_text, are_bytes};
 ghost use Rattle.script_words.specs.Words.{is_byte_string, is_number, is_hex, hex_value};
+ghost use Rattle.script_words.specs.Words.{IsPositive, is_positive};
 ghost use Rattle.script_words.specs.Junks.{are_pairs, hex_text};
 
 use crate::plain::{is_itself, split_plain};
@@ -28,6 +29,17 @@ pub fn number(word: &[u8]) -> Option<u64>
     match text.parse::<u64>() {
         Ok(number) if number <= GREATEST => Some(number),
         _ => None,
+    }
+}
+
+/// The number from 1 that a word spells.
+pub fn positive_number(word: &[u8]) -> Option<u64>
+    ensures { MatchOption result (is_positive word.now ≡ false) (λ n.
+        (is_positive word.now ≡ true) × IsPositive n × (word.now ≡ decimal n)) }
+{
+    match number(word) {
+        None | Some(0) => None,
+        found => found,
     }
 }
 

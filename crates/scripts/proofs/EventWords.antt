@@ -1,8 +1,8 @@
 -- The words of an event: where those of its kind end, and what they and those of its fault say.
-use Rattle.std.proofs.Common.{◌≡◌, ◌/◌, ◌<◌, ◌^◌, ℕ, List, [], ◌∷◌, ◌++◌, Some, None, refl, sym, ap}
+use Rattle.std.proofs.Common.{◌≡◌, ◌/◌, ◌<◌, ℕ, List, [], ◌∷◌, ◌++◌, Some, None, refl, sym, ap}
 use Rattle.std.proofs.Common.{ap₂, subst, ◌∙◌, inl, inr, arith, true, false, map, drop, length}
 use Rattle.std.proofs.Common.{append-nil, Option}
-use Rattle.std.specs.Prelude.{All, IfSome, nat_lt, Bool, codes, if◌then◌else◌, not, ◌&&◌, ◌==◌}
+use Rattle.std.specs.Prelude.{All, IfSome, Bool, codes, if◌then◌else◌, not, ◌&&◌, ◌==◌}
 use Rattle.std.specs.Fmt.{decimal}
 use Rattle.std.proofs.lemmas.Bool.{cases_Bool, and_parts}
 use Rattle.std.proofs.lemmas.Bool.Decides.{nat_tests}
@@ -10,6 +10,8 @@ use Rattle.std.proofs.lemmas.List.Elements.{All-head, All-tail}
 use Rattle.disk.specs.declared.Fault.{Fault}
 use Rattle.disk.specs.declared.Junk.{Junk}
 use Rattle.disk.specs.declared.Junk.TheVariants.{Old, New, Bytes}
+use Rattle.kv_types.specs.{edits_of, mark_of}
+use Rattle.kv_types.specs.declared.mark.Mark.{Mark}
 use Rattle.kv_types.specs.declared.Edit.{Edit}
 use Rattle.kv_types.specs.declared.Edit.TheVariants.{Put, Delete}
 use Rattle.events.specs.declared.EventContent.{EventContent}
@@ -21,18 +23,21 @@ use Rattle.script_words.specs.Words.{AreBytes, is_plain, bound_text, bytes_text,
 use Rattle.script_words.specs.Words.{has_fault, before_fault, from_fault}
 use Rattle.script_words.specs.Edits.{AreBytesIn, edit_word}
 use Rattle.script_words.specs.Junks.{AreBytesOf, hex_text, IsJunk}
-use Rattle.scripts.specs.Statements.{CanBeSaid, IsSpelled, NumberCanBeSaid, number_words}
-use Rattle.script_words.specs.FaultWords.{FaultCanBeSaid, IsFault, is_call, fault_word}
+use Rattle.scripts.specs.Statements.{CanBeSaid, IsSpelled, MarkCanBeSaid, NumberCanBeSaid}
+use Rattle.scripts.specs.Statements.{mark_words, number_words}
+use Rattle.script_words.specs.FaultWords.{FaultCanBeSaid, IsFault, fault_word}
 use Rattle.script_words.specs.FaultWords.{may_bear_fault}
 use Rattle.scripts.specs.Events.{SpellsEvent}
 use Rattle.scripts.specs.Faults.{spelling_fault, junk_fault}
 use Rattle.script_words.specs.FaultWordsLemmas.{AreOfFault, joined_words, faultless_before}
-use Rattle.script_words.specs.WordsLemmas.{number_faultless, number_back, number_word, one_number}
+use Rattle.script_words.specs.WordsLemmas.{number_faultless, number_word, one_number}
+use Rattle.script_words.specs.WordsLemmas.{positive_word}
 use Rattle.scripts.proofs.Placing.{bears}
 use Rattle.script_words.specs.JunksLemmas.{junk_read, one_junk}
 use Rattle.scripts.proofs.ReadBack.{event_read}
 use Rattle.scripts.proofs.FirstWords.{first_word, words_behind}
-use Rattle.scripts.proofs.OneEvent.{name_of, one_event}
+use Rattle.scripts.proofs.EventNames.{name_of}
+use Rattle.scripts.proofs.OneEvent.{one_event}
 use Rattle.script_words.specs.declared.error.ScriptError.TheVariants.{BadFault}
 use Rattle.scripts.specs.Laws.{EventsAreRead, is_faultless}
 use Rattle.script_words.specs.declared.error.ScriptError.{ScriptError}
@@ -83,10 +88,23 @@ at_begins : (at : Option ℕ) → NumberCanBeSaid at → has_fault (number_words
 at_begins None small = refl
 at_begins (Some n) small = rw (number_faultless (decimal n) (number_word n small)) refl
 
+mark_begins : (mark : Option Mark) (words : List (List ℕ)) → IfSome mark MarkCanBeSaid
+    → has_fault (mark_words mark ++ words) ≡ has_fault words
+mark_begins None words said = refl
+mark_begins (Some mark) words said =
+    rw (
+      number_faultless (decimal mark.client) (number_word mark.client said.0.1),
+      number_faultless (decimal mark.request) (number_word mark.request said.1.1),
+    ) refl
+
 no_fault : (what : EventKind) (words : List (List ℕ)) → CanBeSaid what → IsSpelled what words →
     has_fault (drop 1 words) ≡ false
-no_fault (Submit node edits) words said e =
-    rw (e, number_faultless (decimal node) (number_word node said.0)) (edits_begin edits said.1)
+no_fault (Submit node batch) words said e =
+    rw (
+      e,
+      number_faultless (decimal node) (number_word node said.0),
+      mark_begins (mark_of batch) (map edit_word (edits_of batch)) said.2,
+    ) (edits_begin (edits_of batch) said.1)
 no_fault (Get node key None) words said e =
     rw (e, number_faultless (decimal node) (number_word node said.0), text_alone key said.1) refl
 no_fault (Get node key (Some at)) words said e =
@@ -149,11 +167,6 @@ fault_begins disk.None words is = rw is tt
 fault_begins (disk.Fail call) words is = rw is refl
 fault_begins (disk.Stop call junk) words is = rw is.2 refl
 
-call_read : (call : ℕ) → 0 < call → call < 2 ^ 63 → is_call (decimal call) ≡ true
-call_read call some small =
-    let above : nat_lt 0 call ≡ true = grind (arith, nat_tests) in
-    rw (number_word call small, number_back call small, above) refl
-
 -- no words of a fault stand where none may
 abbrev FitsFaults : Bool → List (List ℕ) → Type 0
 FitsFaults faults words = faults ≡ false → words ≡ []
@@ -165,7 +178,7 @@ fault_read false f name words said is none fits = rw (fits refl) refl
 fault_read true disk.None name words said is none fits = rw is refl
 fault_read true (disk.Fail call) name words said is none fits =
     elim (cases_Bool (may_bear_fault name)) [
-      | inl t ↦ rw (is, t, call_read call said.0 said.1) refl
+      | inl t ↦ rw (is, t, positive_word call said) refl
       | inr f ↦ absurd (cc (none f))
     ]
 fault_read true (disk.Stop call junk) name words said is none fits =
@@ -173,7 +186,7 @@ fault_read true (disk.Stop call junk) name words said is none fits =
       | inl t ↦ rw (
         is.2,
         t,
-        call_read call said.0.0 said.0.1,
+        positive_word call said.0,
         junk_read junk is.0 said.1 is.1,
       ) refl
       | inr f ↦ absurd (cc (none f))
@@ -215,7 +228,7 @@ one_fault (disk.Stop m j) (disk.Stop n k) words sf sg p q =
 -- the words of a kind begin with its name
 pub opens : (what : EventKind) (words : List (List ℕ)) → IsSpelled what words
     → (args : List (List ℕ)) × (words ≡ name_of what ∷ args)
-opens (Submit node edits) words e = (_, e)
+opens (Submit node batch) words e = (_, e)
 opens (Get node key None) words e = (_, e)
 opens (Get node key (Some at)) words e = (_, e)
 opens (Rows node range at) words e = (_, e)

@@ -6,7 +6,6 @@ use Rattle.std.specs.Option.{option_map_or}
 use Rattle.std.specs.Str.{bytes_eq}
 use Rattle.kv_types.specs.declared.KvError.{KvError}
 use Rattle.configurations.specs.NodeLists.{Configurations}
-use Rattle.events.specs.declared.EventKind.{EventKind}
 use Rattle.script_words.specs.declared.error.ScriptError.{ScriptError}
 use Rattle.scripts.specs.declared.statement.Action.{Action}
 use Rattle.scripts.specs.declared.statement.Action.TheVariants.{Event, Invalid}
@@ -19,24 +18,8 @@ use Rattle.scripts.specs.Scripts.{IsStatement, begins, is_skipped}
 use Rattle.script_words.specs.Lines.{words_of}
 use Rattle.scripts.proofs.EventWords.{opens}
 use Rattle.scripts.proofs.FirstWords.{first_word}
-use Rattle.scripts.proofs.OneEvent.{name_of, of_name}
+use Rattle.scripts.proofs.EventNames.{name_of, never_shows}
 use Rattle.events.specs.declared.EventContent.{EventContent}
-
-never_shows : (what : EventKind) → bytes_eq (name_of what) (codes "show") ≡ false
-never_shows = of_name (λ name. bytes_eq name (codes "show") ≡ false) (record {
-  submit = refl;
-  get = refl;
-  rows = refl;
-  back = refl;
-  opening = refl;
-  closing = refl;
-  deliver = refl;
-  notice = refl;
-  tick = refl;
-  tend = refl;
-  start = refl;
-  stop = refl;
-})
 
 event_begins : (event : EventContent) (o : Option KvError) →
     begins (option_map_or (λ e. Invalid e) o (Event event)) ≡ true

@@ -1,4 +1,6 @@
 pub mod FirstWords
+pub mod FirstBytes
+pub mod EventNames
 pub mod Places
 pub mod OneEvent
 pub mod ReadBack
@@ -12,7 +14,6 @@ pub mod Ids
 pub mod Going
 pub mod Items
 pub mod EventWords
-pub mod FirstBytes
 pub mod ReadScripts
 pub mod OneScript
 pub mod Beginnings

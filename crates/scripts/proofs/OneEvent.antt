@@ -1,6 +1,6 @@
 -- The words of an event, of a junk and of a number spell no other.
-use Rattle.std.proofs.Common.{◌≡◌, ℕ, List, [], ◌∷◌, refl, sym, ap, ◌∙◌, inl, inr, arith, Bool}
-use Rattle.std.proofs.Common.{true, false, map, codes, Option, Some, None, length}
+use Rattle.std.proofs.Common.{◌≡◌, ℕ, List, [], ◌∷◌, ◌++◌, refl, sym, ap, ◌∙◌, inl, inr, arith}
+use Rattle.std.proofs.Common.{Bool, true, false, map, codes, Option, Some, None, length}
 use Rattle.std.specs.Fmt.{decimal}
 use Rattle.disk.specs.declared.Junk.{Junk}
 use Rattle.std.specs.Prelude.{All, IfSome, ◌==◌, ◌||◌, if◌then◌else◌}
@@ -9,15 +9,18 @@ use Rattle.std.proofs.lemmas.Bool.Decides.{nat_tests}
 use Rattle.std.proofs.lemmas.Grind.{common_steps}
 use Rattle.std.proofs.lemmas.List.Elements.{All-head, All-tail}
 use Rattle.kv_types.specs.declared.Edit.{Edit}
-use Rattle.kv_types.specs.{Span}
+use Rattle.kv_types.specs.declared.mark.Mark.{Mark}
+use Rattle.kv_types.specs.{BatchContent, Span, edits_of, mark_of}
 use Rattle.script_words.specs.Words.{AreBytes, bound_text, bytes_text}
 use Rattle.script_words.specs.Edits.{edit_word, AreBytesIn}
-use Rattle.scripts.specs.Statements.{IsSpelled, CanBeSaid, NumberCanBeSaid, RangeCanBeSaid}
-use Rattle.scripts.specs.Statements.{number_words, walk_name}
+use Rattle.scripts.specs.Statements.{IsSpelled, CanBeSaid, MarkCanBeSaid, NumberCanBeSaid}
+use Rattle.scripts.specs.Statements.{RangeCanBeSaid, mark_words, number_words, submit_name}
+use Rattle.scripts.specs.Statements.{walk_name}
 use Rattle.events.specs.declared.EventKind.{EventKind}
 use Rattle.events.specs.declared.EventKind.TheVariants.{Submit, Get, Deliver, Tick}
 use Rattle.events.specs.declared.EventKind.TheVariants.{Tend, Start, Stop}
 use Rattle.events.specs.declared.EventKind.TheVariants.{Rows, Open, Close, Notice}
+use Rattle.scripts.proofs.EventNames.{name_of, named, of_submit, of_walk}
 use Rattle.scripts.proofs.FirstWords.{first_word, head, words_behind}
 use Rattle.script_words.specs.EditsLemmas.{no_star, one_edit, one_text}
 use Rattle.script_words.specs.JunksLemmas.{one_junk}
@@ -35,69 +38,44 @@ records_are_unique (c ∷ a) (d ∷ b) la lb e =
           (ap words_behind e),
     ) refl
 
--- what begins the spelling of an event
-abbrev pub name_of : EventKind → List ℕ
-name_of (Submit node edits) = codes "submit"
-name_of (Get node key at) = codes "get"
-name_of (Rows node range at) = walk_name range.backward
-name_of (Open node at) = codes "open"
-name_of (Close node number) = codes "close"
-name_of (Deliver place) = codes "deliver"
-name_of (Notice node epoch) = codes "notice"
-name_of (Tick node) = codes "tick"
-name_of (Tend node) = codes "tend"
-name_of (Start node) = codes "start"
-name_of (Stop node junk) = codes "stop"
+-- marks are the same where client and request are
+same_mark : (a b c d : ℕ) → a ≡ c → b ≡ d
+    → ◌≡◌ {A = Mark} (record { client = a; request = b }) (record { client = c; request = d })
+same_mark a b c d clients requests = rw (clients, requests) refl
 
--- this holds of the name of each event
-pub record HoldsOfNames (P : List ℕ → Type 0) : Type 0 where
-  pub submit : P (codes "submit")
-  pub get : P (codes "get")
-  pub rows : P (codes "rows")
-  pub back : P (codes "back")
-  pub opening : P (codes "open")
-  pub closing : P (codes "close")
-  pub deliver : P (codes "deliver")
-  pub notice : P (codes "notice")
-  pub tick : P (codes "tick")
-  pub tend : P (codes "tend")
-  pub start : P (codes "start")
-  pub stop : P (codes "stop")
+-- no two marks have one spelling, and what stands behind them is the same
+one_mark : (m n : Option Mark) (v w : List (List ℕ)) → IfSome m MarkCanBeSaid
+    → IfSome n MarkCanBeSaid → submit_name m ≡ submit_name n
+    → mark_words m ++ v ≡ mark_words n ++ w → (m ≡ n) × (v ≡ w)
+one_mark None None v w la lb name e = (refl, e)
+one_mark None (Some n) v w la lb name e =
+    let at : 115 ≡ 111 = ap head name in
+    absurd (omega (arith, at))
+one_mark (Some m) None v w la lb name e =
+    let at : 111 ≡ 115 = ap head name in
+    absurd (omega (arith, at))
+one_mark (Some m) (Some n) v w la lb name e = (
+  ap Some (same_mark m.client m.request n.client n.request
+      (one_number m.client n.client la.0.1 lb.0.1 (ap first_word e))
+      (one_number m.request n.request la.1.1 lb.1.1 (ap (λ l. first_word (words_behind l)) e))),
+  ap (λ l. words_behind (words_behind l)) e,
+)
 
--- .. and so of that of a walk in each direction
-pub of_walk : (P : List ℕ → Type 0) → P (codes "rows") → P (codes "back") → (backward : Bool)
-    → P (walk_name backward)
-of_walk P rows back true = back
-of_walk P rows back false = rows
+same_submit : (m n : ℕ) (o p : Option Mark) (a b : List Edit) → m ≡ n → o ≡ p → a ≡ b
+    → Submit m (record { mark = o; content = a }) ≡ Submit n (record { mark = p; content = b })
+same_submit m n o p a b nodes marks edits = rw (nodes, marks, edits) refl
 
-pub of_name : (P : List ℕ → Type 0) → HoldsOfNames P → (what : EventKind) → P (name_of what)
-of_name P all (Submit node edits) = all.submit
-of_name P all (Get node key at) = all.get
-of_name P all (Rows node range at) = of_walk P all.rows all.back range.backward
-of_name P all (Open node at) = all.opening
-of_name P all (Close node number) = all.closing
-of_name P all (Deliver place) = all.deliver
-of_name P all (Notice node epoch) = all.notice
-of_name P all (Tick node) = all.tick
-of_name P all (Tend node) = all.tend
-of_name P all (Start node) = all.start
-of_name P all (Stop node junk) = all.stop
-
-pub named : (what : EventKind) (words : List (List ℕ)) → IsSpelled what words
-    → first_word words ≡ name_of what
-named (Submit node edits) words e = ap first_word e
-named (Get node key None) words e = ap first_word e
-named (Get node key (Some at)) words e = ap first_word e
-named (Rows node range at) words e = ap first_word e
-named (Open node at) words e = ap first_word e
-named (Close node number) words e = ap first_word e
-named (Deliver place) words e = ap first_word e
-named (Notice node epoch) words e = ap first_word e
-named (Tick node) words e = ap first_word e
-named (Tend node) words e = ap first_word e
-named (Start node) words e = ap first_word e
-named (Stop node junk) words (inl p) = ap first_word p.1
-named (Stop node junk) words (inr p) = ap first_word p.2
+one_submit : (m n : ℕ) (a b : BatchContent) (words : List (List ℕ)) → CanBeSaid (Submit m a)
+    → CanBeSaid (Submit n b) → IsSpelled (Submit m a) words → IsSpelled (Submit n b) words
+    → Submit m a ≡ Submit n b
+one_submit m n a b words la lb e f =
+    let both = sym e ∙ f in
+    let behind = one_mark (mark_of a) (mark_of b) (map edit_word (edits_of a))
+    (map edit_word (edits_of b)) la.2 lb.2 (ap first_word both)
+    (ap (λ w. words_behind (words_behind w)) both) in
+    same_submit m n (mark_of a) (mark_of b) (edits_of a) (edits_of b)
+    (one_number m n la.0 lb.0 (ap (λ w. first_word (words_behind w)) both)) behind.0
+    (records_are_unique (edits_of a) (edits_of b) la.1 lb.1 behind.1)
 
 one_get : (m n : ℕ) (k l : List ℕ) (o p : Option ℕ) (words : List (List ℕ)) → CanBeSaid (Get m k o)
     → CanBeSaid (Get n l p) → IsSpelled (Get m k o) words → IsSpelled (Get n l p) words
@@ -233,7 +211,8 @@ one_notice m n a b words la lb e f =
 -- the number of a name among those of events
 abbrev kind_number : List ℕ → ℕ
 kind_number name =
-    if bytes_eq name (codes "submit") then 1 else if bytes_eq name (codes "get") then 2 else
+    if bytes_eq name (codes "submit") || bytes_eq name (codes "once") then 1 else
+    if bytes_eq name (codes "get") then 2 else
     if bytes_eq name (codes "rows") || bytes_eq name (codes "back") then 3 else
     if bytes_eq name (codes "open") then 4 else if bytes_eq name (codes "close") then 5 else
     if bytes_eq name (codes "deliver") then 6 else if bytes_eq name (codes "tick") then 7 else
@@ -242,7 +221,7 @@ kind_number name =
 
 -- .. of an event
 abbrev kind_of : EventKind → ℕ
-kind_of (Submit node edits) = 1
+kind_of (Submit node batch) = 1
 kind_of (Get node key at) = 2
 kind_of (Rows node range at) = 3
 kind_of (Open node at) = 4
@@ -255,7 +234,8 @@ kind_of (Stop node junk) = 10
 kind_of (Notice node epoch) = 11
 
 kind_named : (what : EventKind) → kind_number (name_of what) ≡ kind_of what
-kind_named (Submit node edits) = refl
+kind_named (Submit node batch) =
+    of_submit (λ name. kind_number name ≡ 1) refl refl (mark_of batch)
 kind_named (Get node key at) = refl
 kind_named (Rows node range at) =
     of_walk (λ name. kind_number name ≡ 3) refl refl range.backward
@@ -279,12 +259,7 @@ clash a b same differ = absurd (grind (arith, nat_tests))
 
 pub one_event : (a b : EventKind) (words : List (List ℕ)) → CanBeSaid a → CanBeSaid b
     → IsSpelled a words → IsSpelled b words → a ≡ b
-one_event (Submit m es) (Submit n fs) words la lb e f =
-    let both = sym e ∙ f in
-    rw (
-      one_number m n la.0 lb.0 (ap (λ w. first_word (words_behind w)) both),
-      records_are_unique es fs la.1 lb.1 (ap (λ w. words_behind (words_behind w)) both),
-    ) refl
+one_event (Submit m a) (Submit n b) words la lb e f = one_submit m n a b words la lb e f
 one_event (Get m k o) (Get n l p) words la lb e f = one_get m n k l o p words la lb e f
 one_event (Rows m r o) (Rows n s p) words la lb e f = one_rows m n r s o p words la lb e f
 one_event (Open m o) (Open n p) words la lb e f = one_opening m n o p words la lb e f

@@ -21,7 +21,7 @@ use Rattle.script_words.specs.Limits.{limits_with}
 use Rattle.scripts.specs.Scripts.{IsBody, IsOtherStatement, IsScriptWith, IsStatement, MayFollow}
 use Rattle.scripts.specs.Scripts.{NamesOneNode, SetsUp, begins, is_skipped, statement, up_to}
 use Rattle.script_words.specs.Lines.{words_of}
-use Rattle.scripts.proofs.OneEvent.{name_of, of_name}
+use Rattle.scripts.proofs.EventNames.{name_of, of_name}
 use Rattle.script_words.specs.WordsLemmas.{one_number}
 use Rattle.scripts.proofs.EventWords.{one_whole, opens}
 use Rattle.scripts.proofs.Ids.{ids_read}
@@ -66,6 +66,7 @@ later_words (name ∷ words) = words
 event_number : (what : EventKind) → name_number (name_of what) ≡ 0
 event_number = of_name (λ name. name_number name ≡ 0) (record {
   submit = refl;
+  once = refl;
   get = refl;
   rows = refl;
   back = refl;

@@ -9,7 +9,8 @@ use Rattle.std.proofs.lemmas.Grind.{common_steps}
 use Rattle.std.specs.Str.{bytes_eq}
 use Rattle.std.specs.Str.Parse.{digits_value}
 use Rattle.std.specs.Fmt.{decimal}
-use Rattle.kv_types.specs.{has}
+use Rattle.kv_types.specs.{has, mark_of}
+use Rattle.kv_types.specs.declared.mark.Mark.{Mark}
 use Rattle.configurations.specs.NodeLists.{Configurations, at_epoch}
 use Rattle.disk.specs.declared.Fault.{Fault}
 use Rattle.events.specs.declared.EventKind.{EventKind}
@@ -28,7 +29,7 @@ use Rattle.scripts.specs.declared.statement.LineItem.TheVariants.{Config}
 use Rattle.scripts.specs.declared.statement.Action.{Action}
 use Rattle.scripts.specs.declared.statement.Action.TheVariants.{Event, Flow, Settle, Show}
 use Rattle.script_words.specs.Words.{before_fault, from_fault, is_number}
-use Rattle.scripts.specs.Statements.{CanBeSaid, IsSpelled, fault_of_words, walk_name}
+use Rattle.scripts.specs.Statements.{CanBeSaid, IsSpelled, fault_of_words, submit_name, walk_name}
 use Rattle.scripts.specs.Actions.{action_of}
 use Rattle.scripts.specs.Events.{SpellsEvent, bears_fault}
 use Rattle.script_words.specs.FaultWords.{fault_word, may_bear_fault, ReadsFaultAs}
@@ -37,11 +38,18 @@ use Rattle.scripts.specs.Faults.{epoch_named, place_fault, spelling_fault, junk_
 use Rattle.scripts.specs.Reading.{IsOfOneNode, Places, PlacesNode, ReadsWords, what_of}
 use Rattle.scripts.specs.Scripts.{MayFollow, NamesEpoch, up_to}
 use Rattle.script_words.specs.FaultWordsLemmas.{split_words}
-use Rattle.scripts.proofs.OneEvent.{name_of, named, of_walk}
+use Rattle.scripts.proofs.EventNames.{name_of, named, of_submit, of_walk}
 use Rattle.scripts.proofs.ReadBack.{event_read}
 use Rattle.script_words.specs.WordsLemmas.{number_back}
 use Rattle.events.specs.declared.EventContent.{EventContent}
 use Rattle.scripts.specs.declared.command.Command.TheVariants as command
+
+-- a submit is no delivery, and no notice
+submit_no_delivery : (mark : Option Mark) → bytes_eq (submit_name mark) (codes "deliver") ≡ false
+submit_no_delivery = of_submit (λ name. bytes_eq name (codes "deliver") ≡ false) refl refl
+
+submit_no_notice : (mark : Option Mark) → bytes_eq (submit_name mark) (codes "notice") ≡ false
+submit_no_notice = of_submit (λ name. bytes_eq name (codes "notice") ≡ false) refl refl
 
 -- a walk is no delivery, and no notice
 no_delivery : (backward : Bool) → bytes_eq (walk_name backward) (codes "deliver") ≡ false
@@ -53,7 +61,8 @@ no_notice = of_walk (λ name. bytes_eq name (codes "notice") ≡ false) refl ref
 -- the node that the words of an event name is that of the event
 pub names : (what : EventKind) (words : List (List ℕ)) → CanBeSaid what → IsSpelled what words
     → node_named words ≡ node_in what
-names (Submit n batch) words said e = rw (e, number_back n said.0) refl
+names (Submit n batch) words said e =
+    rw (e, submit_no_delivery (mark_of batch), number_back n said.0) refl
 names (Get n key None) words said e = rw (e, number_back n said.0) refl
 names (Get n key (Some at)) words said e = rw (e, number_back n said.0) refl
 names (Rows n range at) words said e =
@@ -71,7 +80,7 @@ names (Stop n junk) words said (inr e) = rw (e.2, number_back n said.0) refl
 -- .. and so is the epoch
 epochs : (what : EventKind) (words : List (List ℕ)) → CanBeSaid what → IsSpelled what words
     → epoch_named words ≡ epoch_in what
-epochs (Submit n batch) words said e = rw e refl
+epochs (Submit n batch) words said e = rw (e, submit_no_notice (mark_of batch)) refl
 epochs (Get n key None) words said e = rw e refl
 epochs (Get n key (Some at)) words said e = rw e refl
 epochs (Rows n range at) words said e = rw (e, no_notice range.backward) refl
@@ -86,7 +95,8 @@ epochs (Stop n junk) words said (inl e) = rw e.1 refl
 epochs (Stop n junk) words said (inr e) = rw e.2 refl
 
 bears_by_name : (what : EventKind) → may_bear_fault (name_of what) ≡ bears_fault what
-bears_by_name (Submit node edits) = refl
+bears_by_name (Submit node batch) =
+    of_submit (λ name. may_bear_fault name ≡ true) refl refl (mark_of batch)
 bears_by_name (Get node key at) = refl
 bears_by_name (Rows node range at) =
     of_walk (λ name. may_bear_fault name ≡ true) refl refl range.backward

@@ -1,13 +1,12 @@
 -- A script has no fault, where its lines are neither too long nor too many.
 use Rattle.std.proofs.Common.{◌≡◌, ◌+◌, ◌≤◌, ℕ, suc, List, [], ◌∷◌, ◌++◌, codes, subst, refl, sym}
 use Rattle.std.proofs.Common.{◌∙◌, inl, inr, arith, true, false, Bool, map, length, Option, Some}
-use Rattle.std.proofs.Common.{None, lit≤}
+use Rattle.std.proofs.Common.{None}
 use Rattle.std.specs.Prelude.{All, IfSome, nat_lt, ◌||◌, ◌<◌, ◌^◌, ◌⊎◌}
 use Rattle.std.specs.Str.{bytes_eq}
 use Rattle.std.specs.Fmt.{decimal}
 use Rattle.std.proofs.lemmas.Bool.Decides.{nat_tests}
 use Rattle.std.proofs.lemmas.List.Elements.{All-head, All-tail}
-use Rattle.events.specs.declared.EventKind.{EventKind}
 use Rattle.events.specs.{epoch_in}
 use Rattle.events.specs.{node_in, NamesNode}
 use Rattle.kv_types.specs.{has}
@@ -38,7 +37,7 @@ use Rattle.scripts.proofs.Placing.{is_of_place, of_one_node}
 use Rattle.script_words.specs.WordsLemmas.{number_back, number_faultless, number_word}
 use Rattle.scripts.proofs.Ids.{ids_read}
 use Rattle.script_words.specs.LimitsLemmas.{is_small, named_by}
-use Rattle.scripts.proofs.OneEvent.{name_of, of_name}
+use Rattle.scripts.proofs.EventNames.{lettered, name_of, no_config, no_limit}
 use Rattle.scripts.proofs.EventWords.{divides, divided_read, opens}
 use Rattle.scripts.specs.Laws.{AreFaultless, ScriptsAreRead, is_faultless}
 use Rattle.scripts.proofs.FirstBytes.{first_byte, not_skipped}
@@ -124,55 +123,6 @@ passes faults cs begun limits event words action name args allows e other third 
       after = rw (e, other, third, ← goes) refl;
       letter = rw e letter;
     }
-
--- no event's name is that of a configuration, and each begins with a letter
-no_config : (what : EventKind) → bytes_eq (name_of what) (codes "config") ≡ false
-no_config = of_name (λ name. bytes_eq name (codes "config") ≡ false) (record {
-  submit = refl;
-  get = refl;
-  rows = refl;
-  back = refl;
-  opening = refl;
-  closing = refl;
-  deliver = refl;
-  notice = refl;
-  tick = refl;
-  tend = refl;
-  start = refl;
-  stop = refl;
-})
-
-no_limit : (what : EventKind) → bytes_eq (name_of what) (codes "limit") ≡ false
-no_limit = of_name (λ name. bytes_eq name (codes "limit") ≡ false) (record {
-  submit = refl;
-  get = refl;
-  rows = refl;
-  back = refl;
-  opening = refl;
-  closing = refl;
-  deliver = refl;
-  notice = refl;
-  tick = refl;
-  tend = refl;
-  start = refl;
-  stop = refl;
-})
-
-lettered : (what : EventKind) (args : List (List ℕ)) → 97 ≤ first_byte (name_of what ∷ args)
-lettered what args = of_name (λ name. 97 ≤ first_byte (name ∷ args)) (record {
-  submit = lit≤ tt;
-  get = lit≤ tt;
-  rows = lit≤ tt;
-  back = lit≤ tt;
-  opening = lit≤ tt;
-  closing = lit≤ tt;
-  deliver = lit≤ tt;
-  notice = lit≤ tt;
-  tick = lit≤ tt;
-  tend = lit≤ tt;
-  start = lit≤ tt;
-  stop = lit≤ tt;
-}) what
 
 event_passes : (faults : Bool) (cs : Configurations) (begun : Bool) (limits : ScriptLimits)
     (event : EventContent) (words : List (List ℕ)) (action : Action) → Allows faults words →

@@ -4,16 +4,16 @@ use Rattle.std.proofs.Common.{Err, Ok, subst, sym}
 use Rattle.std.specs.Prelude.{IsErrAnd, Result}
 use Rattle.std.proofs.lemmas.Grind.{common_steps}
 use Rattle.std.specs.Option.{option_or}
+use Rattle.kv_types.specs.{BatchContent}
 use Rattle.kv_types.specs.declared.Edit.{Edit}
 use Rattle.kv_types.specs.declared.KvError.{KvError}
 use Rattle.events.specs.declared.EventKind.TheVariants.{Submit}
 use Rattle.disk.specs.declared.Fault.{Fault}
-use Rattle.scripts.specs.Actions.{action_of, edit_error, edits_error, submit_error}
+use Rattle.scripts.specs.Actions.{edit_error, edits_error}
 use Rattle.scripts.specs.Reading.{Places}
 use Rattle.scripts.specs.declared.statement.Action.{Action}
 use Rattle.scripts.specs.declared.statement.ParserState.{ParserState}
 use Rattle.script_words.specs.declared.error.ScriptError.{ScriptError}
-use Rattle.scripts.specs.declared.statement.Action.TheVariants.{Event, Invalid}
 use Rattle.events.specs.declared.EventContent.{EventContent}
 
 or_none : (error : Option KvError) → option_or error None ≡ error
@@ -32,17 +32,9 @@ errors_behind (first ∷ edits) edit =
     ap (λ o. option_or (edit_error first) o) (errors_behind edits edit)
     ∙ or_both (edit_error first) (edits_error edits) (edit_error edit)
 
-abbrev pub submitting : ℕ → List Edit → Fault → EventContent
-submitting node edits fault = record { kind = Submit node edits; fault = fault }
-
--- what a batch comes to, and what its first error does
-pub of_batch : (node : ℕ) (edits batch : List Edit) (fault : Fault) → submit_error edits ≡ None
-    → batch ≡ edits → Event (submitting node batch fault) ≡ action_of (submitting node edits fault)
-of_batch node edits batch fault good same = rw (same, good) refl
-
-pub of_error : (node : ℕ) (edits : List Edit) (fault : Fault) (e : KvError)
-    → submit_error edits ≡ Some e → Invalid e ≡ action_of (submitting node edits fault)
-of_error node edits fault e at = rw at refl
+-- a submit of this batch
+abbrev pub submitting : ℕ → BatchContent → Fault → EventContent
+submitting node batch fault = record { kind = Submit node batch; fault = fault }
 
 -- the error behind one edit more
 pub error_after : (edits : List Edit) (edit : Edit) (was is : Option KvError)

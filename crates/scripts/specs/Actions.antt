@@ -2,12 +2,13 @@
 use Rattle.std.specs.Prelude.{ℕ, ◌==◌, ◌||◌, nat_lt, if◌then◌else◌, List, [], ◌∷◌, length, Option}
 use Rattle.std.specs.Prelude.{Some, None}
 use Rattle.std.specs.Option.{option_map_or, option_or}
-use Rattle.kv_types.specs.declared.bounds.TheConstants.{MAX_KEY, MAX_VALUE, MAX_ROWS}
+use Rattle.byte_fields.specs.declared.stored_key.TheConstants.{MAX_KEY}
+use Rattle.kv_types.specs.declared.bounds.TheConstants.{MAX_VALUE, MAX_ROWS}
 use Rattle.kv_types.specs.declared.Edit.{Edit}
 use Rattle.kv_types.specs.declared.Edit.TheVariants.{Put, Delete}
 use Rattle.kv_types.specs.declared.KvError.{KvError}
 use Rattle.kv_types.specs.declared.KvError.TheVariants.{KeyTooLong, ValueTooLong, BadLimit}
-use Rattle.kv_types.specs.{batch_error, Span}
+use Rattle.kv_types.specs.{BatchContent, Span, batch_error, edits_of}
 use Rattle.events.specs.declared.EventKind.{EventKind}
 use Rattle.events.specs.declared.EventKind.TheVariants.{Submit, Get, Deliver, Tick}
 use Rattle.events.specs.declared.EventKind.TheVariants.{Tend, Start, Stop}
@@ -35,8 +36,8 @@ edits_error [] = None
 edits_error (edit ∷ edits) = option_or (edit_error edit) (edits_error edits)
 
 -- the first error of the edits of a batch, that of the batch last
-abbrev pub submit_error : List Edit → Option KvError
-submit_error edits = option_or (edits_error edits) (batch_error edits)
+abbrev pub submit_error : BatchContent → Option KvError
+submit_error batch = option_or (edits_error (edits_of batch)) (batch_error batch)
 
 -- what is wrong with an upper bound of keys, if anything is
 abbrev pub bound_error : Option (List ℕ) → Option KvError
@@ -55,7 +56,7 @@ range_error range =
 
 -- the first error of a statement, that of the batch or range last
 abbrev pub error_of : EventKind → Option KvError
-error_of (Submit node edits) = submit_error edits
+error_of (Submit node batch) = submit_error batch
 error_of (Get node key at) = key_error key
 error_of (Rows node range at) = range_error range
 error_of (Open node at) = None

@@ -11,7 +11,7 @@ use Rattle.disk.specs.declared.Fault.TheVariants as disk
 
 -- a stop bears no fault
 abbrev pub bears_fault : EventKind → Bool
-bears_fault (Submit node edits) = true
+bears_fault (Submit node batch) = true
 bears_fault (Get node key at) = true
 bears_fault (Rows node range at) = true
 bears_fault (Open node at) = true

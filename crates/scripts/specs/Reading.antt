@@ -5,9 +5,7 @@ use Rattle.std.specs.Fmt.{decimal}
 use Rattle.std.specs.Str.{bytes_eq}
 use Rattle.disk.specs.declared.Fault.{Fault}
 use Rattle.events.specs.declared.EventKind.{EventKind}
-use Rattle.kv_types.specs.{has}
-use Rattle.kv_types.specs.Content.{BatchContent, edits_of}
-use Rattle.kv_types.specs.declared.Edit.{Edit}
+use Rattle.kv_types.specs.{BatchContent, has}
 use Rattle.kv_types.specs.declared.KvError.{KvError}
 use Rattle.configurations.specs.NodeLists.{Configurations, at_epoch}
 use Rattle.script_words.specs.declared.error.ScriptError.{ScriptError}
@@ -45,10 +43,10 @@ what_of (Start node) = what.Start node
 -- the name of a statement that has no reader of its own
 abbrev pub IsReadAsCommand : List ℕ → Type 0
 IsReadAsCommand name =
-    (bytes_eq name (codes "submit") ≡ false) × (bytes_eq name (codes "get") ≡ false)
-    × (bytes_eq name (codes "deliver") ≡ false) × (bytes_eq name (codes "notice") ≡ false)
-    × (bytes_eq name (codes "flow") ≡ false) × (bytes_eq name (codes "settle") ≡ false)
-    × (bytes_eq name (codes "show") ≡ false)
+    (bytes_eq name (codes "submit") ≡ false) × (bytes_eq name (codes "once") ≡ false)
+    × (bytes_eq name (codes "get") ≡ false) × (bytes_eq name (codes "deliver") ≡ false)
+    × (bytes_eq name (codes "notice") ≡ false) × (bytes_eq name (codes "flow") ≡ false)
+    × (bytes_eq name (codes "settle") ≡ false) × (bytes_eq name (codes "show") ≡ false)
 
 -- a reader gives the statement that is spelled, or the least fault, unless memory runs out
 abbrev pub ReadsCommand : List (List ℕ) → Result Command ScriptError → Type 0
@@ -67,18 +65,19 @@ ReadsLookup words (Ok lookup) =
     × IsSpelled (looking_up lookup) words
 ReadsLookup words (Err e) = (e ≢ OutOfMemory) → fault_of_words words ≡ Some e
 
--- what became of the edits of a batch: a batch, or their first error
-abbrev pub IsBatchOf : List Edit → Result BatchContent KvError → Type 0
-IsBatchOf edits (Ok batch) = (submit_error edits ≡ None) × (edits_of batch ≡ edits)
-IsBatchOf edits (Err e) = submit_error edits ≡ Some e
+-- what became of a batch that words ask for: itself, or its first error
+abbrev pub IsBatchOf : BatchContent → Result BatchContent KvError → Type 0
+IsBatchOf asked (Ok batch) = (submit_error asked ≡ None) × (batch ≡ asked)
+IsBatchOf asked (Err e) = submit_error asked ≡ Some e
 
 -- a reader gives the node and the batch of the submit that is spelled, or the least fault, unless
 -- memory runs out
 abbrev pub ReadsSubmit : List (List ℕ) → Result (ℕ × Result BatchContent KvError) ScriptError
     → Type 0
 ReadsSubmit words (Ok (node, batch)) =
-    (fault_of_words words ≡ None) × ((edits : List Edit) × CanBeSaid (what.Submit node edits)
-    × IsSpelled (what.Submit node edits) words × IsBatchOf edits batch)
+    (fault_of_words words ≡ None) × ((asked : BatchContent)
+    × CanBeSaid (what.Submit node asked)
+    × IsSpelled (what.Submit node asked) words × IsBatchOf asked batch)
 ReadsSubmit words (Err e) = (e ≢ OutOfMemory) → fault_of_words words ≡ Some e
 
 -- what a reader returned for what a statement bears besides its own words

@@ -1,11 +1,13 @@
 -- The statements of a script: how each is spelled, and the least fault of the words of one.
 use Rattle.std.specs.Prelude.{◌≡◌, ℕ, Bool, false, ◌||◌, not, ◌==◌, if◌then◌else◌, List, [], ◌∷◌}
 use Rattle.std.specs.Prelude.{length, map, codes, ◌⊎◌, Option, Some, None, ◌<◌, ◌^◌, All, IfSome}
+use Rattle.std.specs.Prelude.{◌++◌}
 use Rattle.std.specs.Fmt.{decimal}
 use Rattle.std.specs.List.{list_any, zip}
 use Rattle.std.specs.Option.{option_map_or}
 use Rattle.std.specs.Str.{bytes_eq}
-use Rattle.kv_types.specs.{Span}
+use Rattle.kv_types.specs.{Span, edits_of, mark_of}
+use Rattle.kv_types.specs.declared.mark.Mark.{Mark}
 use Rattle.disk.specs.declared.Junk.TheVariants.{Old}
 use Rattle.events.specs.declared.EventKind.{EventKind}
 use Rattle.events.specs.declared.EventKind.TheVariants.{Submit, Get, Deliver, Tick}
@@ -16,7 +18,7 @@ use Rattle.script_words.specs.declared.error.ScriptError.TheVariants.{UnknownSta
 use Rattle.script_words.specs.declared.error.ScriptError.TheVariants.{WrongNumberOfWords, BadNumber}
 use Rattle.script_words.specs.declared.error.ScriptError.TheVariants.{BadBytes, BadFault}
 use Rattle.script_words.specs.Words.{AreBytes, bound_text, bytes_text, is_bound, is_byte_string}
-use Rattle.script_words.specs.Words.{is_number}
+use Rattle.script_words.specs.Words.{IsPositive, is_number, is_positive}
 use Rattle.script_words.specs.Edits.{AreBytesIn, edit_word, is_edit}
 use Rattle.script_words.specs.Junks.{AreBytesOf, IsJunk, is_junk}
 
@@ -29,9 +31,14 @@ RangeCanBeSaid range =
 abbrev pub NumberCanBeSaid : Option ℕ → Type 0
 NumberCanBeSaid at = IfSome at (λ n. n < 2 ^ 63)
 
--- an event of bytes, and of numbers that a script may name
+-- a mark that a script may name
+abbrev pub MarkCanBeSaid : Mark → Type 0
+MarkCanBeSaid mark = IsPositive mark.client × IsPositive mark.request
+
+-- an event of bytes, and of numbers and a mark that a script may name
 abbrev pub CanBeSaid : EventKind → Type 0
-CanBeSaid (Submit node edits) = (node < 2 ^ 63) × All AreBytesIn edits
+CanBeSaid (Submit node batch) =
+    (node < 2 ^ 63) × All AreBytesIn (edits_of batch) × IfSome (mark_of batch) MarkCanBeSaid
 CanBeSaid (Get node key None) = (node < 2 ^ 63) × AreBytes key
 CanBeSaid (Get node key (Some at)) = (node < 2 ^ 63) × AreBytes key × (at < 2 ^ 63)
 CanBeSaid (Rows node range at) =
@@ -54,9 +61,21 @@ number_words (Some n) = decimal n ∷ []
 abbrev pub walk_name : Bool → List ℕ
 walk_name backward = if backward then codes "back" else codes "rows"
 
+-- the name of a statement that submits a batch, by the mark of the batch
+abbrev pub submit_name : Option Mark → List ℕ
+submit_name None = codes "submit"
+submit_name (Some mark) = codes "once"
+
+-- the words for a mark, if there is one
+abbrev pub mark_words : Option Mark → List (List ℕ)
+mark_words None = []
+mark_words (Some mark) = decimal mark.client ∷ decimal mark.request ∷ []
+
 -- these words spell the event
 abbrev pub IsSpelled : EventKind → List (List ℕ) → Type 0
-IsSpelled (Submit node edits) words = words ≡ codes "submit" ∷ decimal node ∷ map edit_word edits
+IsSpelled (Submit node batch) words =
+    words ≡ submit_name (mark_of batch) ∷ decimal node ∷ mark_words (mark_of batch)
+    ++ map edit_word (edits_of batch)
 IsSpelled (Get node key None) words =
     words ≡ codes "get" ∷ decimal node ∷ bytes_text key ∷ []
 IsSpelled (Get node key (Some at)) words =
@@ -80,6 +99,7 @@ IsSpelled (Start node) words = words ≡ codes "start" ∷ decimal node ∷ []
 -- what stands in a word's place
 pub data Kind : Type 0 where
   number : Kind
+  positive : Kind
   text : Kind
   bound : Kind
   edit : Kind
@@ -89,6 +109,14 @@ pub data Kind : Type 0 where
 abbrev pub submit_shape : List (List ℕ) → Option (List Kind)
 submit_shape [] = None
 submit_shape (node ∷ edits) = Some (number ∷ map (λ _. edit) edits)
+
+-- a once names a node, a client and a request, then edits
+abbrev pub once_shape : List (List ℕ) → Option (List Kind)
+once_shape [] = None
+once_shape (node ∷ []) = None
+once_shape (node ∷ client ∷ []) = None
+once_shape (node ∷ client ∷ request ∷ edits) =
+    Some (number ∷ positive ∷ positive ∷ map (λ _. edit) edits)
 
 -- a get names a node, a key, and a number or none
 abbrev pub get_shape : ℕ → Option (List Kind)
@@ -126,6 +154,7 @@ none_shape n = if n == 0 then Some [] else None
 abbrev pub shape : List ℕ → List (List ℕ) → Option (List Kind)
 shape name args =
     if bytes_eq name (codes "submit") then submit_shape args else
+    if bytes_eq name (codes "once") then once_shape args else
     if bytes_eq name (codes "get") then get_shape (length args) else
     if bytes_eq name (codes "rows") then rows_shape (length args) else
     if bytes_eq name (codes "back") then rows_shape (length args) else
@@ -139,6 +168,7 @@ shape name args =
 -- a word that is not what has to stand there
 abbrev pub is_bad_number : Kind × List ℕ → Bool
 is_bad_number (number, w) = not (is_number w)
+is_bad_number (positive, w) = not (is_positive w)
 is_bad_number (_, w) = false
 
 -- a word that is not the byte string, bound or edit that has to stand there
@@ -163,9 +193,9 @@ fault_of_places places =
 -- the name of a statement
 abbrev pub is_name : List ℕ → Bool
 is_name w =
-    bytes_eq w (codes "submit") || bytes_eq w (codes "get") || bytes_eq w (codes "rows")
-    || bytes_eq w (codes "back") || bytes_eq w (codes "open") || bytes_eq w (codes "close")
-    || bytes_eq w (codes "notice") || bytes_eq w (codes "stop")
+    bytes_eq w (codes "submit") || bytes_eq w (codes "once") || bytes_eq w (codes "get")
+    || bytes_eq w (codes "rows") || bytes_eq w (codes "back") || bytes_eq w (codes "open")
+    || bytes_eq w (codes "close") || bytes_eq w (codes "notice") || bytes_eq w (codes "stop")
     || bytes_eq w (codes "start") || bytes_eq w (codes "deliver") || bytes_eq w (codes "flow")
     || bytes_eq w (codes "tick") || bytes_eq w (codes "tend") || bytes_eq w (codes "settle")
     || bytes_eq w (codes "show")

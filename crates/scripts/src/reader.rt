@@ -17,7 +17,7 @@ use crate::look_up::look_up;
 use crate::setup::Setup;
 use crate::statement::{Action, LineItem, ParserState, Statement};
 use crate::statements::command_of;
-use crate::submit::submit;
+use crate::submit::{once, submit};
 use configurations::NodeId;
 use disk::Fault;
 use events::{Event, EventKind};
@@ -223,6 +223,8 @@ fn statement(
 {
     if name == b"submit".as_slice() {
         submit(alloc, before, args)
+    } else if name == b"once".as_slice() {
+        once(alloc, before, args)
     } else if name == b"get".as_slice() {
         look_up(alloc, before, args)
     } else if name == b"deliver".as_slice() {

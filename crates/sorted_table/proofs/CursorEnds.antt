@@ -8,7 +8,8 @@ use Rattle.std.specs.Ordering.{is_lt, ordering_then, nat_cmp}
 use Rattle.std.specs.declared.cmp.Ordering.{Ordering}
 use Rattle.std.specs.declared.cmp.Ordering.TheVariants.{Less}
 use Rattle.disk.specs.{Slot}
-use Rattle.kv_types.specs.{Entry, StoredKey, stored_cmp}
+use Rattle.byte_fields.specs.{StoredKey, stored_cmp}
+use Rattle.kv_types.specs.{Entry}
 use Rattle.kv_types.specs.OrderLemmas.{Among, Contains-among, Rises, among_from_Contains}
 use Rattle.kv_types.specs.OrderLemmas.{rises_from_AllPairs}
 use Rattle.merge_iter.specs.{EntryPrecedes, chain, spot}

@@ -1,14 +1,15 @@
 -- Where the key and the value of an entry that is read stand.
-use Rattle.std.proofs.Common.{◌≡◌, ℕ, ◌+◌, ◌-◌, ◌≤◌, List, ◌∷◌, ◌++◌, length, take, drop}
+use Rattle.std.proofs.Common.{◌≡◌, ℕ, ◌+◌, ◌-◌, ◌≤◌, List, [], ◌∷◌, ◌++◌, length, take, drop}
 use Rattle.std.proofs.Common.{Option, Some, None, IfSome, refl, sym, ap, subst, ◌∙◌, arith}
 use Rattle.std.proofs.Common.{append_assoc, length-append, length-take}
 use Rattle.std.specs.List.{slice_range}
 use Rattle.std.specs.Int.{w16, to_be_bytes}
 use Rattle.std.specs.Option.{ForSome, option_map}
 use Rattle.std.proofs.lemmas.List.{drop_at, take_at, take-append-drop, take_rest}
-use Rattle.byte_fields.specs.{text_bytes}
 use Rattle.byte_fields.specs.FieldsLemmas.{IsBytes, some_is}
 use Rattle.byte_fields.specs.ReadersLemmas.{IsBytes-drop}
+use Rattle.byte_fields.specs.declared.Space.{Space}
+use Rattle.byte_fields.specs.{IsStoredKey, StoredKey, bytes_of, key_bytes, stored_key}
 use Rattle.kv_types.specs.{Entry}
 use Rattle.table_format.specs.{be64, entry_bytes, table_entry_at}
 use Rattle.table_format.specs.Blocks.{change_bytes}
@@ -17,7 +18,7 @@ use Rattle.sorted_table.specs.declared.entry_place.EntryPlace.{EntryPlace}
 use Rattle.sorted_table.specs.declared.entry_place.ByteSpan.{ByteSpan}
 use Rattle.sorted_table.specs.EntryPlaces.{IsEntryFrom, IsSpanIn, span_bytes}
 
-abbrev the_entry : List ℕ → ℕ → Option (List ℕ) → Entry
+abbrev the_entry : StoredKey → ℕ → Option (List ℕ) → Entry
 the_entry key number value = record { key = key; number = number; value = value }
 
 -- the part of a text that stands between two others
@@ -33,11 +34,12 @@ abbrev IsValueAt : List ℕ → ℕ → List ℕ → Type 0
 IsValueAt bytes end value =
     (length value ≤ end) × (slice_range bytes (end - length value) end ≡ value)
 
--- the key stands behind its length, and the value before the rest
+-- the bytes of the key stand behind its space and their length, and the value before the rest
 pub record EntryStands (bytes : List ℕ) (start : ℕ) (entry : Entry) (rest : List ℕ)
     : Type 0 where
-  pub within : start + 2 + length entry.key + length rest ≤ length bytes
-  pub key : slice_range bytes (start + 2) (start + 2 + length entry.key) ≡ entry.key
+  pub within : start + 3 + length (bytes_of entry.key) + length rest ≤ length bytes
+  pub key : slice_range bytes (start + 3) (start + 3 + length (bytes_of entry.key))
+      ≡ bytes_of entry.key
   pub value : IfSome entry.value (IsValueAt bytes (length bytes - length rest))
 
 -- so many bytes stand before the rest
@@ -59,22 +61,24 @@ value_stands bytes front key number (Some value) rest parts =
       part_between bytes before value rest _ _ split (omega (arith, size)) (omega (arith, size)),
     )
 
-stands_behind : (bytes front : List ℕ) (entry : Entry) (rest : List ℕ)
-    → bytes ≡ front ++ (entry_bytes entry ++ rest)
-    → EntryStands bytes (length front) entry rest
-stands_behind bytes front entry rest parts =
-    let len = to_be_bytes w16 (length entry.key) in
-    let key = text_bytes entry.key in
-    let before = front ++ len in
-    let change = be64 entry.number ++ change_bytes entry.value in
-    let split : bytes ≡ before ++ (entry.key ++ (change ++ rest)) =
+stands_behind : (bytes front : List ℕ) (key : StoredKey) (number : ℕ) (value : Option (List ℕ))
+    (rest : List ℕ) → IsStoredKey key
+    → bytes ≡ front ++ (entry_bytes (the_entry key number value) ++ rest)
+    → EntryStands bytes (length front) (the_entry key number value) rest
+stands_behind bytes front [] number value rest is parts =
+    absurd (let le = is.0 in omega (arith, le))
+stands_behind bytes front (space ∷ key) number value rest is parts =
+    let head = space ∷ to_be_bytes w16 (length key) in
+    let before = front ++ head in
+    let change = be64 number ++ change_bytes value in
+    let split : bytes ≡ before ++ (key ++ (change ++ rest)) =
     parts ∙ simp append_assoc refl in
-    let size = length_before bytes before entry.key (change ++ rest) split in
-    let head : length before ≡ length front + 2 = omega (arith, length-append front len) in
+    let size = length_before bytes before key (change ++ rest) split in
+    let at : length before ≡ length front + 3 = omega (arith, length-append front head) in
     record {
-      within = omega (arith, size, head, length-append change rest);
-      key = part_between bytes before entry.key (change ++ rest) _ _ split head (omega arith);
-      value = value_stands bytes front key (be64 entry.number) entry.value rest parts;
+      within = omega (arith, size, at, length-append change rest);
+      key = part_between bytes before key (change ++ rest) _ _ split at (omega arith);
+      value = value_stands bytes front (key_bytes (space ∷ key)) (be64 number) value rest parts;
     }
 
 -- so does an entry that is read
@@ -89,7 +93,8 @@ read_stands bytes start entry rest fits inside read =
     let parts : bytes ≡ front ++ (entry_bytes entry ++ rest) =
     sym (take-append-drop start bytes) ∙ ap (λ t. front ++ t) spelled.0.parts in
     let len : length front ≡ start = omega (arith, length-take start bytes) in
-    subst (λ n. EntryStands bytes n entry rest) len (stands_behind bytes front entry rest parts)
+    subst (λ n. EntryStands bytes n entry rest) len
+    (stands_behind bytes front entry.key entry.number entry.value rest spelled.1.key parts)
 
 -- ---- the places that are kept
 
@@ -98,10 +103,11 @@ abbrev value_span : ℕ → Option (List ℕ) → Option ByteSpan
 value_span end None = None
 value_span end (Some value) = Some (record { start = end - length value; end = end })
 
--- the places of a key of this length and of a value that ends there
-abbrev place_of : ℕ → ℕ → ℕ → ℕ → Option (List ℕ) → EntryPlace
-place_of start len number end value = record {
-  key = record { start = start + 2; end = start + 2 + len };
+-- the places of a key of this space and length, and of a value that ends there
+abbrev place_of : Space → ℕ → ℕ → ℕ → ℕ → Option (List ℕ) → EntryPlace
+place_of space start len number end value = record {
+  space = space;
+  key = record { start = start + 3; end = start + 3 + len };
   number = number;
   value = value_span end value;
 }
@@ -118,24 +124,26 @@ value_within bytes end None within is = λ span none. absurd cc
 value_within bytes end (Some value) within is = λ span same.
     subst (IsSpanIn bytes) (some_is _ span same) (omega arith, within)
 
-same_parts : (number : ℕ) (key other : List ℕ) (value left : Option (List ℕ)) → key ≡ other
+same_parts : (number : ℕ) (key other : StoredKey) (value left : Option (List ℕ)) → key ≡ other
     → value ≡ left → the_entry key number value ≡ the_entry other number left
 same_parts number key other value left same is =
     ap (λ k. the_entry k number value) same ∙ ap (λ v. the_entry other number v) is
 
 -- the entry that is read has its key and its value there
-pub is_entry_from : (bytes : List ℕ) (start : ℕ) (entry : Entry) (rest : List ℕ) (len : ℕ)
-    (value : Option (List ℕ)) → IsBytes bytes → start ≤ length bytes
+pub is_entry_from : (bytes : List ℕ) (start : ℕ) (entry : Entry) (rest : List ℕ) (space : Space)
+    (len : ℕ) (value : Option (List ℕ)) → IsBytes bytes → start ≤ length bytes
     → table_entry_at (slice_range bytes start (length bytes)) ≡ Some (entry, rest)
-    → len ≡ length entry.key → entry.value ≡ value → IsEntryFrom bytes start
-    (place_of start len entry.number (length bytes - length rest) value)
-is_entry_from bytes start entry rest len value fits inside read long is =
+    → entry.key ≡ stored_key space (bytes_of entry.key) → len ≡ length (bytes_of entry.key)
+    → entry.value ≡ value → IsEntryFrom bytes start
+    (place_of space start len entry.number (length bytes - length rest) value)
+is_entry_from bytes start entry rest space len value fits inside read of_space long is =
     let stands = read_stands bytes start entry rest fits inside read in
     let end = length bytes - length rest in
     let there : IfSome value (IsValueAt bytes end) =
     subst (λ v. IfSome v (IsValueAt bytes end)) is stands.value in
-    let key : entry.key ≡ slice_range bytes (start + 2) (start + 2 + len) =
-    sym stands.key ∙ ap (λ n. slice_range bytes (start + 2) (start + 2 + n)) (sym long) in
+    let key : entry.key ≡ stored_key space (slice_range bytes (start + 3) (start + 3 + len)) =
+    of_space ∙ ap (stored_key space) (sym stands.key
+    ∙ ap (λ n. slice_range bytes (start + 3) (start + 3 + n)) (sym long)) in
     record {
       read =
           ap (λ t. option_map (λ x. x.0) (table_entry_at t)) (sym (take_rest bytes start))

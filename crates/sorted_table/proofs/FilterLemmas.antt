@@ -3,8 +3,9 @@ use Rattle.std.proofs.Common.{◌≡◌, inl, inr, ℕ, List, [], ◌∷◌, Boo
 use Rattle.std.proofs.Common.{refl, sym, ap, subst}
 use Rattle.std.specs.Str.{bytes_eq}
 use Rattle.std.proofs.lemmas.Slice.Eq.{bytes_eq-Decides}
+use Rattle.byte_fields.specs.{StoredKey}
 use Rattle.kv_types.specs.OrderLemmas.{Among, among_from_Contains, among_of_All}
-use Rattle.kv_types.specs.{Entry, IsUnseen, StoredKey}
+use Rattle.kv_types.specs.{Entry, IsUnseen}
 use Rattle.bloom.specs.Filters.{Covers, FiltersCover, IsFilter}
 use Rattle.table_format.specs.{different_keys}
 

@@ -1,13 +1,13 @@
 -- What a call keeps of a disk where it makes no call of the disk, or reports as another call does.
 use Rattle.std.proofs.Common.{ℕ, List, refl}
-use Rattle.disk.specs.{IsSame, Marks, State}
+use Rattle.disk.specs.{Incidents, IsSame, State}
 use Rattle.disk.specs.Calls.{KeepsBy}
 
 module _ {D : Type 0} {honest : D → Type 0} {state : D → State} {failures : D → ℕ}
-    {reliable : D → Type 0} {past : D → List State} {marks : D → Marks} where
+    {reliable : D → Type 0} {past : D → List State} {incidents : D → Incidents} where
   -- no call was made
   pub kept_uncalled : {F : Type 0} (disk : D) → (F → ⊥) →
-      KeepsBy honest state failures reliable past marks disk disk F ⊥ IsSame
+      KeepsBy honest state failures reliable past incidents disk disk F ⊥ IsSame
   kept_uncalled disk works = record {
     honest = (λ is. is, λ is. is);
     failed = λ fails. absurd (works fails);
@@ -21,8 +21,8 @@ module _ {D : Type 0} {honest : D → Type 0} {state : D → State} {failures : 
 
   -- two answers report a failure of the device alike
   pub kept_alike : {F G : Type 0} (old new : D) → (F → G) → (G → F) →
-      KeepsBy honest state failures reliable past marks old new F ⊥ IsSame →
-      KeepsBy honest state failures reliable past marks old new G ⊥ IsSame
+      KeepsBy honest state failures reliable past incidents old new F ⊥ IsSame →
+      KeepsBy honest state failures reliable past incidents old new G ⊥ IsSame
   kept_alike old new to back k = record {
     honest = k.honest;
     failed = λ fails. k.failed (back fails);

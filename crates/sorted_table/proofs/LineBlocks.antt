@@ -7,8 +7,9 @@ use Rattle.std.proofs.lemmas.List.{take_at, drop_at}
 use Rattle.std.proofs.lemmas.Grind.{flat_map-append}
 use Rattle.std.proofs.lemmas.List.Concat.{flat_map-cons}
 use Rattle.std.proofs.lemmas.List.Elements.{All-from_recursion, recursion_from_All}
+use Rattle.byte_fields.specs.{StoredKey}
 use Rattle.kv_types.specs.OrderLemmas.{Among, Rises, rises_from_AllPairs, AllPairs-rises}
-use Rattle.kv_types.specs.{Entry, StoredKey}
+use Rattle.kv_types.specs.{Entry}
 use Rattle.merge_iter.specs.{EntryPrecedes, chain, spot}
 use Rattle.merge_iter.specs.declared.Direction.TheVariants.{Forward}
 use Rattle.table_format.specs.FrontsLemmas.{IsShortBlock, few_entries, length-block_part}

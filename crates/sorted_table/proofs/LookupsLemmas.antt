@@ -2,9 +2,10 @@
 use Rattle.std.proofs.Common.{◌≡◌, ◌⊎◌, inl, inr, ℕ, ◌≤◌, List, [], ◌∷◌, ◌++◌, Option, Some, None}
 use Rattle.std.proofs.Common.{Contains, AllPairs, All, refl, sym, ap, subst, ◌∙◌, arith}
 use Rattle.std.specs.Option.{option_map}
+use Rattle.byte_fields.specs.{StoredKey}
 use Rattle.kv_types.specs.OrderLemmas.{Among, Rises, rises_from_AllPairs, Contains-among}
 use Rattle.kv_types.specs.OrderLemmas.{among_from_Contains, among_of_All}
-use Rattle.kv_types.specs.{Entry, IsNewest, IsUnseen, StoredKey}
+use Rattle.kv_types.specs.{Entry, IsNewest, IsUnseen}
 use Rattle.merge_iter.specs.EntryOrder.{cases}
 use Rattle.merge_iter.specs.EntryParts.{between, equal_parts, numbers_fall}
 use Rattle.merge_iter.specs.{EntryPrecedes, spot}

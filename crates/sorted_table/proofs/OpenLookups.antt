@@ -8,7 +8,8 @@ use Rattle.bloom.specs.{Covers, CoversHashed, hashes_of}
 use Rattle.std.specs.List.{slice_get}
 use Rattle.std.proofs.lemmas.Option.{slice_get_within}
 use Rattle.disk.specs.{IsEnvironmental, Slot, State, seen}
-use Rattle.kv_types.specs.{Entry, StoredKey}
+use Rattle.byte_fields.specs.{StoredKey}
+use Rattle.kv_types.specs.{Entry}
 use Rattle.merge_iter.specs.{spot}
 use Rattle.table_format.specs.{AreRising, IsBlock, end_spot}
 use Rattle.table_format.specs.declared.IndexLine.{IndexLine}

@@ -7,8 +7,9 @@ use Rattle.std.proofs.Common.{All, Option, Contains, sym, subst, ◌∙◌, Resu
 use Rattle.std.specs.Prelude.{◌↔◌, IsErrAnd, IsErrOf}
 use Rattle.std.specs.List.{AllByRecursion}
 use Rattle.std.proofs.lemmas.List.Elements.{recursion_from_All}
+use Rattle.byte_fields.specs.{StoredKey}
 use Rattle.kv_types.specs.OrderLemmas.{All-among, Among, Rises, rises_from_AllPairs}
-use Rattle.kv_types.specs.{Entry, IsUnseen, StoredKey}
+use Rattle.kv_types.specs.{Entry, IsUnseen}
 use Rattle.merge_iter.specs.{EntryPrecedes, spot}
 use Rattle.merge_iter.specs.declared.Direction.TheVariants.{Forward}
 use Rattle.table_format.specs.{AreRising, IsBlock}

@@ -12,8 +12,9 @@ use Rattle.std.proofs.lemmas.List.Elements.{recursion_from_All}
 use Rattle.std.proofs.lemmas.Option.{get_or_from_slice_get, slice_get_past, slice_get_within}
 use Rattle.disk.specs.{Slot}
 use Rattle.byte_fields.specs.FieldsLemmas.{some_is}
+use Rattle.byte_fields.specs.{StoredKey}
 use Rattle.kv_types.specs.OrderLemmas.{Among, Rises, rises_from_AllPairs}
-use Rattle.kv_types.specs.{Entry, StoredKey}
+use Rattle.kv_types.specs.{Entry}
 use Rattle.merge_iter.specs.declared.Direction.TheVariants.{Forward}
 use Rattle.merge_iter.specs.{At, EntryPrecedes, MoveFinds, chain, spot}
 use Rattle.table_format.specs.{AreRising, Block, block_bytes, block_entries, block_line}

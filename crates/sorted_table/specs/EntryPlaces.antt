@@ -1,6 +1,7 @@
 -- Entries of which the key and the value are found at places of the bytes.
 use Rattle.std.specs.Prelude.{◌≡◌, ℕ, ◌≤◌, List, length, slice_range, Some}
 use Rattle.std.specs.Option.{ForSome, option_map}
+use Rattle.byte_fields.specs.{stored_key}
 use Rattle.kv_types.specs.{Entry}
 use Rattle.table_files.specs.{entry_read}
 use Rattle.sorted_table.specs.declared.entry_place.EntryPlace.{EntryPlace}
@@ -10,10 +11,10 @@ use Rattle.sorted_table.specs.declared.entry_place.ByteSpan.{ByteSpan}
 abbrev pub span_bytes : List ℕ → ByteSpan → List ℕ
 span_bytes bytes span = slice_range bytes span.start span.end
 
--- the entry that has its key and its value at these places
+-- the entry that has the bytes of its key and its value at these places
 abbrev pub entry_in : List ℕ → EntryPlace → Entry
 entry_in bytes place = record {
-  key = span_bytes bytes place.key;
+  key = stored_key place.space (span_bytes bytes place.key);
   number = place.number;
   value = option_map (span_bytes bytes) place.value;
 }

@@ -6,7 +6,8 @@ use Rattle.std.specs.Option.{option_map}
 use Rattle.std.specs.Rc.{rc_slice_items}
 use Rattle.bloom.specs.{Covers}
 use Rattle.disk.specs.{Slot, seen}
-use Rattle.kv_types.specs.{Entry, IsNewest, IsUnseen, StoredKey}
+use Rattle.byte_fields.specs.{StoredKey}
+use Rattle.kv_types.specs.{Entry, IsNewest, IsUnseen}
 use Rattle.merge_iter.specs.{spot}
 use Rattle.table_builder.specs.{HoldsTable}
 use Rattle.table_format.specs.{IsBlock, TableRepresents, block_lines, last_entry}

@@ -3,7 +3,8 @@ use Rattle.std.specs.Prelude.{◌≡◌, IsErrOf, ℕ, List, Bool, true, Option,
 use Rattle.std.specs.Prelude.{MatchResult}
 use Rattle.disk.specs.declared.Disk.{Ghosts}
 use Rattle.disk.specs.{IsEnvironmental, IsSame, IsStill, KeepsDisk}
-use Rattle.kv_types.specs.{Entry, StoredKey}
+use Rattle.byte_fields.specs.{StoredKey}
+use Rattle.kv_types.specs.{Entry}
 use Rattle.merge_iter.specs.{ErrorCauses, reports}
 use Rattle.merge_iter.specs.declared.CursorError.{CursorError}
 use Rattle.disk.specs.{CallsAtMost}

@@ -1,13 +1,14 @@
 //! The search for a key and number in a block.
 ghost use Rattle.std.specs.Prelude.{◌≡◌, List, MatchResult};
 ghost use Rattle.std.specs.Rc.{rc_slice_items};
-ghost use Rattle.kv_types.specs.{Entry, lent_key};
+ghost use Rattle.byte_fields.specs.{lent_key};
+ghost use Rattle.kv_types.specs.{Entry};
 ghost use Rattle.table_format.specs.{IsBlock};
 ghost use Rattle.sorted_table.specs.Open.{LookupFinds};
 
 use crate::found::{FoundVersion, version_of};
 use crate::starts::{count_before, entry_from};
-use kv_types::LentKey;
+use byte_fields::LentKey;
 use std::alloc::Global;
 use table_files::CheckedBlock;
 use table_format::FileError;

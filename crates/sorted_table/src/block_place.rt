@@ -3,7 +3,8 @@ ghost use Rattle.std.specs.Prelude.{◌≡◌, ◌<◌, ◌≤◌, ◌+◌, ◌-
 ghost use Rattle.std.specs.Prelude.{IsSomeAnd, length, slice_index};
 ghost use Rattle.std.proofs.Props.{props};
 ghost use Rattle.std.specs.Rc.{rc_slice_items};
-ghost use Rattle.kv_types.specs.{Entry, lent_key};
+ghost use Rattle.byte_fields.specs.{lent_key};
+ghost use Rattle.kv_types.specs.{Entry};
 ghost use Rattle.merge_iter.specs.{spot};
 ghost use Rattle.table_format.specs.{AreRising, IsBlock, lent_entry};
 ghost use Rattle.sorted_table.specs.EntryPlaces.{IsEntryFrom};
@@ -11,7 +12,7 @@ ghost use Rattle.sorted_table.specs.EntrySplits.{SplitsEntries};
 
 use crate::entry_place::EntryPlace;
 use crate::starts::count_before;
-use kv_types::LentKey;
+use byte_fields::LentKey;
 use merge_iter::Direction;
 use table_files::CheckedBlock;
 use table_format::LentEntry;

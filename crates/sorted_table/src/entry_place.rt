@@ -4,11 +4,11 @@ ghost use Rattle.table_files.specs.{entry_read};
 ghost use Rattle.table_format.specs.{lent_entry};
 ghost use Rattle.sorted_table.specs.EntryPlaces.{IsEntryFrom, IsPlacedIn, entry_in};
 
-use kv_types::LentKey;
+use byte_fields::{LentKey, Space};
 use table_format::{LentEntry, entry_of};
 
-// How many bytes the length in front of a key has.
-const LENGTH_SIZE: usize = 2;
+// How many bytes space and length in front of a key have.
+const FRONT_SIZE: usize = 3;
 
 /// Where some bytes of a block start and end.
 #[derive(Clone, Copy)]
@@ -17,9 +17,11 @@ pub struct ByteSpan {
     pub end: usize,
 }
 
-/// The number of an entry, and where its key and its value stand, or that it is a deletion.
+/// Space and number of an entry, and where the bytes of its key and its value stand, or that it is
+/// a deletion.
 #[derive(Clone, Copy)]
 pub struct EntryPlace {
+    pub space: Space,
     pub key: ByteSpan,
     pub number: u64,
     pub value: Option<ByteSpan>,
@@ -35,9 +37,10 @@ impl EntryPlace {
             return None;
         }
         let (entry, rest) = entry_of(&bytes[start..])?;
-        let key_start = start + LENGTH_SIZE;
+        let key_start = start + FRONT_SIZE;
         let end = bytes.len() - rest.len();
         Some(EntryPlace {
+            space: entry.key.space(),
             key: ByteSpan {
                 start: key_start,
                 end: key_start + entry.key.len(),
@@ -60,7 +63,7 @@ impl EntryPlace {
         ensures { lent_entry result ≡ entry_in bytes.now self }
     {
         LentEntry {
-            key: LentKey::new(&bytes[self.key.start..self.key.end]),
+            key: LentKey::new(self.space, &bytes[self.key.start..self.key.end]),
             number: self.number,
             value: match self.value {
                 Some(value) => Some(&bytes[value.start..value.end]),

@@ -1,12 +1,12 @@
 //! The search for a block by the lines of an index.
 ghost use Rattle.std.specs.Prelude.{◌≡◌, ◌≤◌, length, map};
 ghost use Rattle.std.specs.Ordering.{is_lt};
-ghost use Rattle.kv_types.specs.{lent_key};
+ghost use Rattle.byte_fields.specs.{lent_key};
 ghost use Rattle.merge_iter.specs.{entry_cmp, spot};
 ghost use Rattle.table_format.specs.{AreRising, end_spot};
 ghost use Rattle.sorted_table.specs.Searches.{IsLinePlace};
 
-use kv_types::LentKey;
+use byte_fields::LentKey;
 use merge_iter::order;
 use table_format::IndexLine;
 

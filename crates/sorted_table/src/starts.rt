@@ -1,12 +1,13 @@
 //! The entries that are read at places of a block, and the search among them.
 ghost use Rattle.std.specs.Prelude.{◌≡◌, ◌≤◌, List, length, option_map};
-ghost use Rattle.kv_types.specs.{Entry, lent_key};
+ghost use Rattle.byte_fields.specs.{lent_key};
+ghost use Rattle.kv_types.specs.{Entry};
 ghost use Rattle.merge_iter.specs.{spot};
 ghost use Rattle.table_format.specs.{AreRising, lent_entry};
 ghost use Rattle.table_files.specs.{ReadsEntries, entry_read};
 ghost use Rattle.sorted_table.specs.EntrySplits.{SplitsEntries, is_read_before};
 
-use kv_types::LentKey;
+use byte_fields::LentKey;
 use merge_iter::order;
 use table_format::{LentEntry, entry_of};
 

@@ -3,7 +3,8 @@ ghost use Rattle.std.specs.Prelude.{◌≡◌, ◌↔◌, List, IfOk, IsTrue, Ma
 ghost use Rattle.std.specs.Prelude.{IsErrOf, option_map};
 ghost use Rattle.bloom.specs.{Covers, CoversHashed, hashes_of};
 ghost use Rattle.disk.specs.{IsEnvironmental, IsSame, IsStill, KeepsDisk, Slot, State};
-ghost use Rattle.kv_types.specs.{Entry, lent_key};
+ghost use Rattle.byte_fields.specs.{lent_key};
+ghost use Rattle.kv_types.specs.{Entry};
 ghost use Rattle.merge_iter.specs.{IsAlike, Off};
 ghost use Rattle.disk.specs.{CallsAtMost};
 ghost use Rattle.table_format.specs.declared.FileError.TheVariants.{Disk, Memory};
@@ -16,8 +17,8 @@ use crate::table_cursor::TableCursor;
 use crate::tail::{parts_of, read_tail};
 use bloom::laws::filters_cover;
 use bloom::{KeyHashes, may_hold_hashed};
+use byte_fields::{LentKey, StoredKey};
 use disk::Disk;
-use kv_types::{LentKey, StoredKey};
 use merge_iter::Cursor;
 use std::alloc::{AllocError, Global};
 use std::rc::RcSlice;
@@ -97,7 +98,7 @@ impl Table {
         ensures { AnswersLookup ⟦<CachedDisk<D> as Disk>⟧ self.now (lent_key key.entry) at
             (Covers (table_filter self.now) (lent_key key.entry)) files.old files.new result }
     {
-        self.get_hashed(alloc, files, key, KeyHashes::of(key.as_bytes()), at)
+        self.get_hashed(alloc, files, key, KeyHashes::of_stored(key), at)
     }
 
     /// `get` of the key that has these hashes. A lookup in many tables computes them once.

@@ -6,7 +6,8 @@ use Rattle.std.specs.List.{slice_get, sum_by}
 use Rattle.std.proofs.lemmas.List.Sums.{sum_by-cons}
 use Rattle.std.proofs.lemmas.Option.{slice_get_within}
 use Rattle.disk.specs.{RisesByOne}
-use Rattle.kv_types.specs.{Entry, StoredKey}
+use Rattle.byte_fields.specs.{StoredKey}
+use Rattle.kv_types.specs.{Entry}
 use Rattle.merge_iter.specs.{Broken, EntriesStay, EntryPrecedes, ErrorCauses, IfOn, IsAlike}
 use Rattle.merge_iter.specs.{IsFirst, IsLawful, IsOn, MoveKeeps, Off, On, Position}
 use Rattle.merge_iter.specs.{UnionHolds, WalkMeets, WalkStart, chain, never, spot}

@@ -2,7 +2,8 @@
 use Rattle.std.specs.Prelude.{◌≡◌, ℕ, ◌+◌, ◌-◌, ◌*◌, ◌<◌, ◌≤◌, List, length, Option, Some, None}
 use Rattle.std.specs.Prelude.{IfOk, Result}
 use Rattle.std.specs.List.{slice_get, sum_by}
-use Rattle.kv_types.specs.{Entry, lent_key}
+use Rattle.byte_fields.specs.{lent_key}
+use Rattle.kv_types.specs.{Entry}
 use Rattle.merge_iter.specs.{After, At, AtEnd, Broken, EachChild, EntryPrecedes, IfOn, IsBroken}
 use Rattle.merge_iter.specs.{IsFirst, Off, Position, RefusesMove, WalkMeets, WalkStart, reports}
 use Rattle.merge_iter.specs.{spot, union_of, AreSound}

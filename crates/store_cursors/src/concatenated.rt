@@ -10,7 +10,7 @@ ghost use Rattle.store_cursors.specs.ConcatenationLaws.{concatenated_fits, conca
 use crate::child_place::ChildPlace;
 use crate::in_turn::{Ends, ended, enter_from, step_from};
 use crate::start::Start;
-use kv_types::LentKey;
+use byte_fields::LentKey;
 use merge_iter::{Cursor, CursorError, Direction};
 
 /// Cursors one after another: the entries of each come before those of the next. It stands where
@@ -107,8 +107,8 @@ impl<C: Ends> Cursor for Concatenated<C> {
     fn key(&self) -> LentKey<'_> {
         match self.place {
             ChildPlace::On(k) => self.children[k].key(),
-            ChildPlace::Off => LentKey::empty(),
-            ChildPlace::Broken => LentKey::empty(),
+            ChildPlace::Off => LentKey::least(),
+            ChildPlace::Broken => LentKey::least(),
         }
     }
 

@@ -1,7 +1,8 @@
 //! Searches and steps among cursors in series.
 ghost use Rattle.std.specs.Prelude.{◌≡◌, ◌<◌, ◌≤◌, ℕ, IsTrue, vec_len, Some};
 ghost use Rattle.std.specs.List.{slice_get};
-ghost use Rattle.kv_types.specs.{Entry, lent_key};
+ghost use Rattle.byte_fields.specs.{lent_key};
+ghost use Rattle.kv_types.specs.{Entry};
 ghost use Rattle.merge_iter.specs.{CanStep, EachChild, EntryPrecedes, Off};
 ghost use Rattle.merge_iter.specs.{spot};
 ghost use Rattle.merge_iter.specs.declared.Direction.TheVariants.{Forward};
@@ -12,8 +13,8 @@ ghost use Rattle.store_cursors.specs.Concatenation.{concatenated_position};
 
 use crate::child_place::ChildPlace;
 use crate::start::{Start, rank};
+use byte_fields::LentKey;
 use disk::Disk;
-use kv_types::LentKey;
 use merge_iter::{Cursor, CursorError, Direction, step};
 use sorted_table::TableCursor;
 

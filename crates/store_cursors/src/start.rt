@@ -4,7 +4,7 @@ ghost use Rattle.store_cursors.specs.Concatenation.{walk_start, walk_way};
 ghost use Rattle.std.specs.Prelude.{◌≡◌, ◌<◌};
 ghost use Rattle.merge_iter.specs.{MovesBy};
 
-use kv_types::LentKey;
+use byte_fields::LentKey;
 use merge_iter::{Cursor, CursorError, Direction};
 
 /// Where a walk starts: at an end of the entries, or at a key and number.

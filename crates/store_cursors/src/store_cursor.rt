@@ -7,8 +7,8 @@ ghost use Rattle.store_cursors.specs.Concatenation.{AreConcatenated};
 ghost use Rattle.store_cursors.specs.StoreCursors.{HasEntries};
 
 use crate::concatenated::Concatenated;
+use byte_fields::LentKey;
 use disk::Disk;
-use kv_types::LentKey;
 use memtable::{MemCursor, Memtable, MemtableError};
 use merge_iter::{Cursor, CursorError};
 use sorted_table::{CachedDisk, TableCursor};

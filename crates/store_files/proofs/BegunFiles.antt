@@ -64,6 +64,7 @@ manifest_failed called manifest.Damaged (Err s) is told = (λ f. cc, λ f. cc)
 manifest_failed called manifest.NotCreated (Err s) is told = (λ f. cc, λ f. cc)
 manifest_failed called manifest.Memory (Err s) is told = (λ f. cc, λ f. cc)
 manifest_failed called manifest.Failed (Err s) is told = (λ f. cc, λ f. cc)
+manifest_failed called manifest.OldFormat (Err s) is told = (λ f. cc, λ f. cc)
 
 -- an external refusal of a manifest is one of the engine
 pub manifest_is_external : (e : ManifestError) → IsEnvironmental manifest.Disk manifest.Memory e →
@@ -76,9 +77,10 @@ pub manifest_refuses : (e : ManifestError) → (e ≡ manifest.Failed → ⊥) �
     IsOpeningError (error_of_manifest e)
 manifest_refuses manifest.Disk works = inl tt
 manifest_refuses manifest.Damaged works = inl tt
-manifest_refuses manifest.NotCreated works = inr refl
+manifest_refuses manifest.NotCreated works = inr (inl refl)
 manifest_refuses manifest.Memory works = inl tt
 manifest_refuses manifest.Failed works = absurd (works refl)
+manifest_refuses manifest.OldFormat works = inr (inr refl)
 
 -- one that was not created ends the store
 pub manifest_ends : (e : ManifestError) → IsOfFiles e → IsEnd (error_of_manifest e)
@@ -87,6 +89,7 @@ manifest_ends manifest.Damaged is = tt
 manifest_ends manifest.NotCreated is = absurd is
 manifest_ends manifest.Memory is = tt
 manifest_ends manifest.Failed is = absurd is
+manifest_ends manifest.OldFormat is = absurd is
 
 -- so does a log
 pub disk_ends : (e : DiskError) → IsEnd (error_of_disk e)

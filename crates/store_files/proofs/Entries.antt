@@ -2,8 +2,8 @@
 use Rattle.std.proofs.Common.{◌≡◌, ◌↔◌, ◌⊎◌, ℕ, zero, suc, ◌+◌, ◌≤◌, List, [], ◌∷◌, ◌++◌}
 use Rattle.std.proofs.Common.{length, Some, inl, inr, refl, sym, ap, subst, ◌∙◌, arith}
 use Rattle.std.specs.Prelude.{slice_get}
-use Rattle.kv_types.specs.{BatchContent, Entry, IsNewest, IsUnseen, StoredKey}
-use Rattle.kv_types.specs.{all_entries, entries_of}
+use Rattle.byte_fields.specs.{StoredKey}
+use Rattle.kv_types.specs.{BatchContent, Entry, IsNewest, IsUnseen, all_entries, entries_of}
 use Rattle.memtable.specs.declared.Memtable.{Memtable}
 use Rattle.memtable.specs.{HasFailedAdd, TableHolds}
 use Rattle.store_model.specs.{StoreState, memory_entries}

@@ -10,6 +10,7 @@ pub mod FlushVersions
 pub mod Installed
 pub mod NamedHolds
 pub mod LookUps
+pub mod MarkReads
 pub mod FilesApart
 pub mod Appended
 pub mod Settles

@@ -1,15 +1,23 @@
--- What a lookup in memory and tables finds is what the map has.
+-- What a lookup in memory and tables finds is what the batches leave there.
 use Rattle.std.proofs.Common.{◌≡◌, ◌↔◌, ℕ, ◌≤◌, ◌<◌, List, [], ◌∷◌, length, Option, Some, None}
 use Rattle.std.proofs.Common.{Contains, Err, Ok, Result, ap, arith, inl, inr, subst, suc, sym, zero}
 use Rattle.std.proofs.Common.{◌+◌, ◌-◌, ◌∙◌, refl}
 use Rattle.std.specs.Result.{IsOk}
-use Rattle.std.specs.Prelude.{IfErr, IfOk, IfSome, IsErrOf, IsSomeAnd, MatchResult, drop, slice_get}
-use Rattle.std.specs.Prelude.{take}
+use Rattle.std.specs.Prelude.{IfErr, IfOk, IfSome, IsErrAnd, IsErrOf, IsSome, IsSomeAnd}
+use Rattle.std.specs.Prelude.{MatchResult, drop, is_some, slice_get, take}
+use Rattle.std.specs.Global.{Vec}
 use Rattle.std.specs.Option.{option_flatten, option_map}
 use Rattle.std.proofs.lemmas.List.Elements.{All-contains}
 use Rattle.kv_types.specs.declared.bounds.TheConstants.{MAX_VALUE}
-use Rattle.kv_types.specs.{BatchContent, Entry, IsUnseen, map_of, place}
-use Rattle.disk.specs.{Contents, IsEnvironmental, State, contents}
+use Rattle.byte_fields.specs.{StoredKey}
+use Rattle.kv_types.specs.{BatchContent, Entry, IsShown, IsUnseen, all_entries, map_of}
+use Rattle.byte_fields.specs.{row_key}
+use Rattle.kv_types.specs.{place, stored_map_of}
+use Rattle.kv_types.specs.Entries.{RowsAreStored}
+use Rattle.batch_logs.specs.Reads.{OnlyReads}
+use Rattle.disk.specs.declared.Disk.{Ghosts}
+use Rattle.disk.specs.KeepingLemmas.{kept_as}
+use Rattle.disk.specs.{Contents, IsEnvironmental, IsSame, State, contents}
 use Rattle.memtable.specs.declared.Memtable.{Memtable}
 use Rattle.memtable.specs.declared.error.MemtableError.{MemtableError}
 use Rattle.memtable.specs.declared.error.MemtableError.TheVariants as memtable
@@ -19,8 +27,8 @@ use Rattle.sorted_table.specs.declared.FoundVersion.{FoundVersion}
 use Rattle.sorted_table.specs.{found_entry}
 use Rattle.store_model.specs.PlacesLemmas.{contains_cases, contains_head, contains_next}
 use Rattle.store_model.specs.PlacesLemmas.{slice_get-drop}
-use Rattle.store_model.specs.Claims.{LookUpsAreMaps}
-use Rattle.store_model.specs.{AreLeveled, KeyRange, LevelTable, NewestHas, StoreRepresents}
+use Rattle.store_model.specs.Claims.{LookUpsAreMaps, LookUpsAreShown}
+use Rattle.store_model.specs.{AboveLacks, AreLeveled, KeyRange, LevelTable, StoreRepresents}
 use Rattle.store_model.specs.{StoreState}
 use Rattle.store_model.specs.{memory_entries}
 use Rattle.manifest.specs.declared.TableLine.{TableLine}
@@ -28,7 +36,12 @@ use Rattle.store_tables.specs.declared.error.EngineError.{EngineError}
 use Rattle.store_tables.specs.declared.error.EngineError.TheVariants as engine
 use Rattle.store_tables.specs.LevelTables.{AreTablesOf, IsTableOf, LesserLack, LevelsRise}
 use Rattle.store_tables.specs.LevelTables.{TableLookUpsAreMaps, TablesFind, found_value, line_range}
-use Rattle.store_tables.specs.TableReads.{LacksBlock, OneLacksBlock, OneNamedLacksBlock, WereNamed}
+use Rattle.store_tables.specs.TableReads.{LacksBlock, NeedsNoDisk, OneLacksBlock}
+use Rattle.store_tables.specs.TableReads.{OneNamedLacksBlock, WereNamed}
+use Rattle.store_tables.specs.Errors.{IsEnd}
+use Rattle.store_tables.specs.RefusalLemmas.{if_refuses}
+use Rattle.store_files.specs.ShownValues.{EntriesShow, IsShownIn, shown_entry, shown_of}
+use Rattle.store_files.specs.declared.finding.ShownValue.{ShownValue}
 use Rattle.store_files.proofs.Entries.{newest_in, unseen_in}
 
 -- a call of a memtable that is refused where it has failed alone is answered where it has not
@@ -43,24 +56,83 @@ abbrev pub HasMemory : Memtable → List BatchContent → StoreState → Type 0
 HasMemory table list store =
     (entry : Entry) → TableHolds table entry ↔ memory_entries list store entry
 
--- what memory has of a key
-pub memory_shows : LookUpsAreMaps → (list : List BatchContent) (store : StoreState)
-    → StoreRepresents list store → (at : ℕ) → store.floor ≤ at → at ≤ length list
-    → (key : List ℕ) (table : Memtable) (value : Option (List ℕ)) → HasMemory table list store
-    → NewestHas at (TableHolds table) key value → value ≡ map_of (take at list) key
-memory_shows law list store h at floor count key table value same newest =
-    law list store h at floor count key (Some value)
-    (inl (newest.0, newest_in at (TableHolds table) (memory_entries list store) same _ newest.1))
+-- what a version that puts these bytes shows
+abbrev shown_version : FoundVersion → Vec ℕ → ShownValue
+shown_version found bytes = record { number = found.number; value = bytes.items }
 
--- where it has nothing, what the tables have
-pub tables_show : TableLookUpsAreMaps → (list : List BatchContent) (store : StoreState)
-    → StoreRepresents list store → (at : ℕ) → store.floor ≤ at → at ≤ length list
-    → (key : List ℕ) (table : Memtable) (found : Option FoundVersion) → HasMemory table list store
-    → IsUnseen at (TableHolds table) key → TablesFind at store.tables key found
-    → option_flatten (found_value found) ≡ map_of (take at list) key
-tables_show law list store h at floor count key table found same unseen finds =
-    law list store h at floor count key found
-    (unseen_in at (TableHolds table) (memory_entries list store) same key unseen) finds
+-- its value
+value_left : (found : FoundVersion) (value : Option (Vec ℕ)) →
+    option_map (λ it. it.value) (option_map (λ bytes. shown_version found bytes) value)
+    ≡ option_map (λ bytes. bytes.items) value
+value_left found None = refl
+value_left found (Some bytes) = refl
+
+module _ (maps : LookUpsAreMaps) (shows : LookUpsAreShown) (list : List BatchContent)
+    (store : StoreState) (h : StoreRepresents list store) (at : ℕ) (floor : store.floor ≤ at)
+    (count : at ≤ length list) (key : StoredKey) (table : Memtable)
+    (same : HasMemory table list store) where
+  -- what memory has of a key
+  pub memory_shows : (shown : Option ShownValue)
+      → EntriesShow at (TableHolds table) key (Some shown) → IsShownIn list at key shown
+  memory_shows None newest = record {
+    left = maps list store h at floor count key (Some None)
+        (inl (
+          newest.0,
+          newest_in at (TableHolds table) (memory_entries list store) same _ newest.1,
+        ));
+    entry = tt;
+  }
+  memory_shows (Some it) newest =
+      let mine = newest_in at (TableHolds table) (memory_entries list store) same
+      (shown_entry key it) newest in
+      record {
+        left = maps list store h at floor count key (Some (Some it.value)) (inl (it.number, mine));
+        entry = shows list store h at floor count (shown_entry key it) (inl mine) refl;
+      }
+
+  -- a version that is no deletion, as what it shows
+  entry_of : (found : FoundVersion) → (IsSome (found_entry key found).value
+      → IsShown at (all_entries list) (found_entry key found)) → (value : Option (Vec ℕ))
+      → found.value ≡ value → IfSome (option_map (λ bytes. shown_version found bytes) value)
+      (λ it. IsShown at (all_entries list) (shown_entry key it))
+  entry_of found shown None is = tt
+  entry_of found shown (Some bytes) is =
+      let put : (found_entry key found).value ≡ Some bytes.items =
+      ap (λ (v : Option (Vec ℕ)). option_map (λ b. b.items) v) is in
+      subst (λ (v : Option (List ℕ)). IsShown at (all_entries list)
+      (record { key = key; number = found.number; value = v })) put
+      (shown (ap (λ (v : Option (List ℕ)). is_some v) put))
+
+  -- where it has nothing, what the tables have
+  pub tables_show : TableLookUpsAreMaps → (found : Option FoundVersion)
+      → IsUnseen at (TableHolds table) key → TablesFind at store.tables key found
+      → IsShownIn list at key (shown_of found)
+  tables_show law None unseen finds =
+      let none = unseen_in at (TableHolds table) (memory_entries list store) same key unseen in
+      record { left = law list store h at floor count key None none finds; entry = tt }
+  tables_show law (Some found) unseen finds =
+      let none = unseen_in at (TableHolds table) (memory_entries list store) same key unseen in
+      let stops : AboveLacks at list store key finds.0 =
+      record { memory = none; tables = finds.1 } in
+      record {
+        left = value_left found found.value
+            ∙ law list store h at floor count key (Some found) none finds;
+        entry = entry_of found (shows list store h at floor count (found_entry key found)
+            (inr (finds.0, stops, finds.2))) found.value refl;
+      }
+
+-- the answer of a lookup shows what was found
+pub shown_as : {list : List BatchContent} {at : ℕ} {key : StoredKey} {shown : Option ShownValue}
+    (result : Result (Option ShownValue) EngineError) → IfOk result (λ it. it ≡ shown)
+    → IsShownIn list at key shown → IfOk result (IsShownIn list at key)
+shown_as {list = list} {at = at} {key = key} (Ok it) is shows =
+    subst (IsShownIn list at key) (sym is) shows
+shown_as (Err e) is shows = tt
+
+-- at the key of a row that is what the map has
+pub of_row : RowsAreStored → (list : List BatchContent) (key : List ℕ) (stored : StoredKey)
+    → stored ≡ row_key key → stored_map_of list stored ≡ map_of list key
+of_row law list key stored is = ap (stored_map_of list) is ∙ law list key
 
 -- ---- values that tables have are short
 
@@ -95,7 +167,7 @@ too_long (Some bytes) short long = omega (arith, short, long)
 
 -- so no value that is found is too long
 pub found_short : (left : Contents) (lines : List TableLine) (tables : List LevelTable)
-    → AreTablesOf left lines tables → (at : ℕ) (key : List ℕ) (found : Option FoundVersion)
+    → AreTablesOf left lines tables → (at : ℕ) (key : StoredKey) (found : Option FoundVersion)
     → TablesFind at tables key found
     → IsSomeAnd (option_flatten (found_value found)) (λ bytes. MAX_VALUE < length bytes) → ⊥
 found_short left lines tables h at key None finds long = absurd long
@@ -104,14 +176,8 @@ found_short left lines tables h at key (Some found) finds long =
     let fits = entries_fit left lines tables h seen.0 seen.1 (found_entry key found) seen.3 in
     too_long (option_map (λ value. value.items) found.value) fits.value long
 
--- the answer of a lookup is also what that is
-pub told_as : {found map : Option (List ℕ)} (result : Result (Option (List ℕ)) EngineError)
-    → IfOk result (λ value. value ≡ found) → found ≡ map → IfOk result (λ value. value ≡ map)
-told_as (Ok value) is same = is ∙ same
-told_as (Err e) is same = tt
-
 -- so it is not refused for its length
-pub never_long : (found : Option FoundVersion) (result : Result (Option (List ℕ)) EngineError)
+pub never_long : {T : Type 0} (found : Option FoundVersion) (result : Result T EngineError)
     → IfErr result (λ e. (e ≡ engine.Damaged)
     × IsSomeAnd (option_flatten (found_value found)) (λ bytes. MAX_VALUE < length bytes))
     → (IsSomeAnd (option_flatten (found_value found)) (λ bytes. MAX_VALUE < length bytes) → ⊥)
@@ -120,13 +186,31 @@ never_long found (Ok value) damaged short = tt
 never_long found (Err e) damaged short = absurd (short damaged.1)
 
 -- so an answer is not refused for damage
-pub not_damaged : (found : Option FoundVersion) (result : Result (Option (List ℕ)) EngineError)
+pub not_damaged : {T : Type 0} (found : Option FoundVersion) (result : Result T EngineError)
     → IfErr result (λ e. (e ≡ engine.Damaged)
     × IsSomeAnd (option_flatten (found_value found)) (λ bytes. MAX_VALUE < length bytes))
     → (IsSomeAnd (option_flatten (found_value found)) (λ bytes. MAX_VALUE < length bytes) → ⊥)
     → IsErrOf result engine.Damaged → ⊥
 not_damaged found (Ok value) damaged short is = absurd cc
 not_damaged found (Err e) damaged short is = absurd (short damaged.1)
+
+-- a refusal that is passed on needs no disk where its cause needs none
+pub unread_passed : {D T U : Type 0} {disk later : D} (result : Result U EngineError)
+    {e : EngineError} → IsErrAnd result (λ s. s ≡ e) → NeedsNoDisk {T = T} disk later (Err e)
+    → NeedsNoDisk disk later result
+unread_passed result told unread = record {
+  same = unread.same;
+  causes = if_refuses result (λ s. IsEnd s → s ≡ engine.Memory) told unread.causes;
+}
+
+-- a read that answers is the same read with another answer
+pub answered_alike : {D R T : Type 0} (g : Ghosts D) (old new : D) (x : R) (y : T)
+    → OnlyReads g old new IsSame (Ok x) → OnlyReads g old new IsSame (Ok y)
+answered_alike g old new x y reads = record {
+  kept = kept_as g ((λ told. absurd cc), (λ told. absurd cc)) (λ a b h. h) reads.kept;
+  causes = tt;
+  still = reads.still;
+}
 
 -- ---- tables that lack a block
 
@@ -155,7 +239,7 @@ naming_line left (line ∷ lines) (t ∷ tables) named table has =
     ]
 
 -- a table that lacks the block of a key, and was needed, is named by a line
-pub named_lacks : (disk meant : State) (key : List ℕ) (at flushed : ℕ) (lines : List TableLine)
+pub named_lacks : (disk meant : State) (key : StoredKey) (at flushed : ℕ) (lines : List TableLine)
     (tables : List LevelTable) → WereNamed disk meant lines tables → AreLeveled flushed tables
     → LevelsRise tables → OneLacksBlock disk tables key at → OneNamedLacksBlock disk lines key at
 named_lacks disk meant key at flushed lines tables were leveled rise one =

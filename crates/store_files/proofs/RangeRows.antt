@@ -2,21 +2,26 @@
 use Rattle.std.proofs.Common.{◌≡◌, ◌≤◌, ℕ, List, length, Option, None, Some, inl, inr}
 use Rattle.std.proofs.Common.{arith, ap, refl, subst, sym, ◌∙◌}
 use Rattle.std.specs.Prelude.{take}
+use Rattle.byte_fields.specs.{StoredKey, row_key}
 use Rattle.kv_types.specs.{Row}
 use Rattle.kv_types.specs.declared.bounds.TheConstants.{MAX_NUMBER}
 use Rattle.kv_types.specs.Pages.{IsWithin}
-use Rattle.kv_types.specs.{BatchContent, Entry, IsNewest, IsShown, Span, ViewShows, map_of}
+use Rattle.kv_types.specs.Entries.{RowsAreStored}
+use Rattle.kv_types.specs.SpansLemmas.{row_within}
+use Rattle.kv_types.specs.{BatchContent, Entry, IsNewest, IsShown, Span, ViewShows}
+use Rattle.kv_types.specs.{map_of, stored_span}
 use Rattle.merge_iter.specs.{IsAlike}
 use Rattle.row_pages.specs.{HasRowsOf, row_entry}
 use Rattle.store_model.specs.StoresLemmas.{entries_differ}
 use Rattle.store_model.specs.{StoreRepresents, StoreState, store_entries}
 use Rattle.store_files.specs.RangeEntries.{HasRange}
 
-module _ (list : List BatchContent) (store : StoreState) (ok : StoreRepresents list store) (at : ℕ)
+module _ (law : RowsAreStored) (list : List BatchContent) (store : StoreState)
+    (ok : StoreRepresents list store) (at : ℕ)
     (floor : store.floor ≤ at) (count : at ≤ length list) (range : Span) (entries : Entry → Type 0)
-    (has : HasRange range (store_entries list store) entries) where
+    (has : HasRange (stored_span range) (store_entries list store) entries) where
   -- what the store shows of a key in the range, these entries show
-  shows_in : (key : List ℕ) (value : Option (List ℕ)) → IsWithin range key
+  shows_in : (key : StoredKey) (value : Option (List ℕ)) → IsWithin (stored_span range) key
       → ViewShows at (store_entries list store) key value → ViewShows at entries key value
   shows_in key value within (inl (number, it)) = inl (
     number,
@@ -32,8 +37,11 @@ module _ (list : List BatchContent) (store : StoreState) (ok : StoreRepresents l
       inr (λ other seen same. it.0 other (has.sound other seen.0, seen.1) same, it.1)
 
   shows_map : (key : List ℕ) → IsWithin range key
-      → ViewShows at entries key (map_of (take at list) key)
-  shows_map key within = shows_in key _ within (ok.views at floor count key)
+      → ViewShows at entries (row_key key) (map_of (take at list) key)
+  shows_map key within =
+      subst (ViewShows at entries (row_key key)) (law (take at list) key)
+      (shows_in (row_key key) _ (row_within range key within)
+      (ok.views at floor count (row_key key)))
 
   -- the newest entries of one key are one entry
   one_newest : (a b : Entry) → IsNewest at entries a → IsNewest at entries b → a.key ≡ b.key
@@ -52,8 +60,8 @@ module _ (list : List BatchContent) (store : StoreState) (ok : StoreRepresents l
       | inl newest ↦
           let put : IsNewest at entries (row_entry row newest.0) =
           subst (λ (v : Option (List ℕ)).
-          IsNewest at entries (record { key = row.key; number = newest.0; value = v })) is newest.1
-          in
+          IsNewest at entries (record { key = row_key row.key; number = newest.0; value = v }))
+          is newest.1 in
           (newest.0, (alike (row_entry row newest.0)).1 (record { newest = put; put = refl }))
       | inr unseen ↦ let none : None ≡ Some row.value = sym unseen.1 ∙ is in absurd cc
     ]
@@ -65,7 +73,7 @@ module _ (list : List BatchContent) (store : StoreState) (ok : StoreRepresents l
         elim (shows_map row.key within) [
           | inl newest ↦ ap (λ (e : Entry). e.value)
               (one_newest (record {
-                key = row.key;
+                key = row_key row.key;
                 number = newest.0;
                 value = map_of (take at list) row.key;
               }) (row_entry row number) newest.1 own refl)

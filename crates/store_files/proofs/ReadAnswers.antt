@@ -6,7 +6,7 @@ use Rattle.disk.specs.{Contents, IsEnvironmental, State, contents}
 use Rattle.manifest.specs.declared.Manifest.{Manifest}
 use Rattle.manifest.specs.Holds.{SparesOthers}
 use Rattle.manifest.specs.{IsVersion, NodeVersion}
-use Rattle.manifest.specs.{IsNotCreated, ManifestHasFailed, ManifestRepresents}
+use Rattle.manifest.specs.{IsNotCreated, IsOldStore, ManifestHasFailed, ManifestRepresents}
 use Rattle.manifest.specs.declared.ManifestError.{ManifestError}
 use Rattle.manifest.specs.declared.ManifestError.TheVariants as manifest
 use Rattle.manifest.specs.Manifests.{ManifestRefusal}
@@ -127,23 +127,24 @@ parts_then s0 s1 spares facts count o is =
           (subst (AreOrderedNumbers o.version kept) counted o.numbers);
     }
 
--- a refusal after the manifest was opened is of a store that was created, and of files that open as
--- nothing
+-- a refusal after the manifest was opened is of a store that was created, not in the old format,
+-- and of files that open as nothing
 pub end_explained : (e : EngineError) (left : Contents) → IsEnd e → (IsNotCreated left → ⊥)
-    → ((facts : Facts) (count : ℕ) → OpensAs left facts count →
+    → (IsOldStore left → ⊥) → ((facts : Facts) (count : ℕ) → OpensAs left facts count →
     IsEnvironmental engine.Disk engine.Memory e)
     → OpeningRefusal e left
-end_explained engine.Disk left ends created opens = tt
-end_explained engine.Damaged left ends created opens =
-    (created, λ facts count it. damage_is_own (opens facts count it))
-end_explained engine.Memory left ends created opens = tt
-end_explained engine.NotCreated left ends created opens = absurd ends
-end_explained engine.Failed left ends created opens = absurd ends
-end_explained engine.TooOld left ends created opens = absurd ends
-end_explained engine.NotCommitted left ends created opens = absurd ends
-end_explained engine.NoSuchSnapshot left ends created opens = absurd ends
-end_explained engine.TooManySnapshots left ends created opens = absurd ends
-end_explained engine.Exhausted left ends created opens = absurd ends
+end_explained engine.Disk left ends created not_old opens = tt
+end_explained engine.Damaged left ends created not_old opens =
+    (created, not_old, λ facts count it. damage_is_own (opens facts count it))
+end_explained engine.Memory left ends created not_old opens = tt
+end_explained engine.NotCreated left ends created not_old opens = absurd ends
+end_explained engine.Failed left ends created not_old opens = absurd ends
+end_explained engine.TooOld left ends created not_old opens = absurd ends
+end_explained engine.NotCommitted left ends created not_old opens = absurd ends
+end_explained engine.NoSuchSnapshot left ends created not_old opens = absurd ends
+end_explained engine.TooManySnapshots left ends created not_old opens = absurd ends
+end_explained engine.Exhausted left ends created not_old opens = absurd ends
+end_explained engine.OldFormat left ends created not_old opens = absurd ends
 
 -- so is one of the manifest
 pub slots_explained : (e : ManifestError) (left : Contents) → ManifestRefusal e left
@@ -151,8 +152,10 @@ pub slots_explained : (e : ManifestError) (left : Contents) → ManifestRefusal 
 slots_explained manifest.Disk left told = tt
 slots_explained manifest.Damaged left told = (
   told.0,
+  told.2,
   λ facts count it. told.1 (record { id = facts.id; version = it.version }) it.manifest,
 )
 slots_explained manifest.NotCreated left told = told
 slots_explained manifest.Memory left told = tt
 slots_explained manifest.Failed left told = absurd told
+slots_explained manifest.OldFormat left told = told

@@ -48,6 +48,7 @@ edit_ends manifest.Damaged = tt
 edit_ends manifest.NotCreated = tt
 edit_ends manifest.Memory = tt
 edit_ends manifest.Failed = tt
+edit_ends manifest.OldFormat = tt
 
 pub edit_failed : {T U : Type 0} (e : ManifestError) (s : EngineError) → s ≡ error_of_edit e →
     IsErrOf {T = T} (Err e) manifest.Disk ↔ IsErrOf {T = U} (Err s) engine.Disk
@@ -56,6 +57,7 @@ edit_failed manifest.Damaged s is = (λ f. absurd cc, λ f. absurd cc)
 edit_failed manifest.NotCreated s is = (λ f. absurd cc, λ f. absurd cc)
 edit_failed manifest.Memory s is = (λ f. absurd cc, λ f. absurd cc)
 edit_failed manifest.Failed s is = (λ f. absurd cc, λ f. absurd cc)
+edit_failed manifest.OldFormat s is = (λ f. absurd cc, λ f. absurd cc)
 
 -- ---- another manifest of the same version, but for the configuration
 

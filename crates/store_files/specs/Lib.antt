@@ -16,3 +16,4 @@ pub mod Merging
 pub mod FloorExamples
 pub mod HeldFiles
 pub mod RangeEntries
+pub mod ShownValues

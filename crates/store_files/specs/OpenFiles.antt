@@ -2,15 +2,16 @@
 use Rattle.std.specs.Prelude.{◌≡◌, ◌≢◌, ◌⊎◌, ◌↔◌, ℕ, suc, ◌+◌, ◌-◌, ◌≤◌, List, [], ◌∷◌, ◌++◌}
 use Rattle.std.specs.Prelude.{IsErrOf, length, drop}
 use Rattle.std.specs.Prelude.{All, IfErr, IfOk, IsNone, MatchResult, Result}
+use Rattle.byte_fields.specs.{StoredKey}
 use Rattle.kv_types.specs.declared.bounds.TheConstants.{MAX_NUMBER}
-use Rattle.kv_types.specs.{BatchContent, Entry, IsBatch, IsUnseen, StoredKey}
+use Rattle.kv_types.specs.{BatchContent, Entry, IsBatch, IsUnseen}
 use Rattle.version_edits.specs.declared.line.TheConstants.{MAX_NEXT}
 use Rattle.disk.specs.declared.Disk.{Ghosts}
 use Rattle.disk.specs.{AlwaysLeaves, AreLeftOf, Contents, IsDurable, IsEnvironmental, IsStill}
 use Rattle.disk.specs.{KeepsDisk, State, contents, seen}
 use Rattle.memtable.specs.{TableHolds}
 use Rattle.store_model.specs.{LevelTable, StoreRepresents, StoreState, memory_entries}
-use Rattle.manifest.specs.{IsNotCreated, IsVersion, ManifestHasFailed, ManifestHolds}
+use Rattle.manifest.specs.{IsNotCreated, IsOldStore, IsVersion, ManifestHasFailed, ManifestHolds}
 use Rattle.manifest.specs.{ManifestRepresents, NodeVersion, StoreVersion, version_of}
 use Rattle.store_tables.specs.declared.error.EngineError.{EngineError}
 use Rattle.store_tables.specs.declared.error.EngineError.TheVariants as engine
@@ -187,11 +188,12 @@ pub record FilesOpenAs (left : Contents) (files : StoreFiles) : Type 0 where
   pub count : batch_count files ≡ trimmed_count files + length batches
   pub tables : All (FileFits left) (known_version files).version.tables
 
--- why files were not opened: an external refusal, no store was created, or one was and lacks
--- something of what an opening reads
+-- why files were not opened: an external refusal, no store was created, one of the old format was,
+-- or the store lacks something of what an opening reads
 abbrev pub OpeningRefusal : EngineError → Contents → Type 0
 OpeningRefusal engine.Disk left = Unit {0}
-OpeningRefusal engine.Damaged left = (IsNotCreated left → ⊥) × AreShut left
+OpeningRefusal engine.Damaged left =
+    (IsNotCreated left → ⊥) × (IsOldStore left → ⊥) × AreShut left
 OpeningRefusal engine.Memory left = Unit {0}
 OpeningRefusal engine.NotCreated left = IsNotCreated left
 OpeningRefusal engine.Failed left = ⊥
@@ -200,11 +202,12 @@ OpeningRefusal engine.NotCommitted left = ⊥
 OpeningRefusal engine.NoSuchSnapshot left = ⊥
 OpeningRefusal engine.TooManySnapshots left = ⊥
 OpeningRefusal engine.Exhausted left = ⊥
+OpeningRefusal engine.OldFormat left = IsOldStore left
 
 -- why files were not opened, whatever the disk: for the device, for damage or for memory, or since
--- no store was created
+-- no store was created, or one of the old format
 abbrev pub IsOpeningError : EngineError → Type 0
-IsOpeningError e = IsEnd e ⊎ (e ≡ engine.NotCreated)
+IsOpeningError e = IsEnd e ⊎ (e ≡ engine.NotCreated) ⊎ (e ≡ engine.OldFormat)
 
 -- ---- an opening
 

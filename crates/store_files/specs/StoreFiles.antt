@@ -3,8 +3,9 @@
 use Rattle.std.specs.Prelude.{◌≡◌, ◌≢◌, ◌⊎◌, ℕ, suc, ◌+◌, ◌-◌, ◌<◌, ◌≤◌, List, [], ◌∷◌, ◌++◌}
 use Rattle.std.specs.Prelude.{length, take, drop, All, Contains, Option}
 use Rattle.std.specs.Option.{option_flatten}
+use Rattle.byte_fields.specs.{StoredKey}
 use Rattle.kv_types.specs.declared.bounds.TheConstants.{MAX_NUMBER}
-use Rattle.kv_types.specs.{BatchContent, IsBatch, map_of}
+use Rattle.kv_types.specs.{BatchContent, IsBatch, stored_map_of}
 use Rattle.disk.specs.Crashes.{durable}
 use Rattle.disk.specs.declared.Disk.{Ghosts}
 use Rattle.disk.specs.{AlwaysLeaves, Contents, OnlyLeaves, State}
@@ -16,8 +17,8 @@ use Rattle.store_model.specs.{IsFlush}
 use Rattle.manifest.specs.declared.LogLine.{LogLine}
 use Rattle.manifest.specs.declared.TableLine.{TableLine}
 use Rattle.record_log.specs.{IsDurableAs}
-use Rattle.manifest.specs.{HasFirstSlots, IsNotCreated, IsSlotFile, ManifestRepresents, NodeVersion}
-use Rattle.manifest.specs.{StoreVersion}
+use Rattle.manifest.specs.{HasFirstSlots, IsNotCreated, IsOldStore, IsSlotFile, ManifestRepresents}
+use Rattle.manifest.specs.{NodeVersion, StoreVersion}
 use Rattle.manifest.specs.{Change, changed, first_version}
 use Rattle.store_files.specs.Files.{Facts}
 use Rattle.batch_logs.specs.Layout.{IsLog}
@@ -122,10 +123,11 @@ pub record OpensAs (left : Contents) (facts : Facts) (count : ℕ) : Type 0 wher
 abbrev pub AreShut : Contents → Type 0
 AreShut left = (facts : Facts) (count : ℕ) → OpensAs left facts count → ⊥
 
--- The files are of a store that was created, and represent none. They lack something of what an
--- opening reads.
+-- The files are of a store that was created, not in the old format, and represent none. They lack
+-- something of what an opening reads.
 pub record IsDamaged (left : Contents) : Type 0 where
   pub created : IsNotCreated left → ⊥
+  pub old : IsOldStore left → ⊥
   pub no_store : (facts : Facts) (list : List BatchContent) → FilesRepresent facts list left → ⊥
   pub shut : AreShut left
 
@@ -162,14 +164,15 @@ StoreFilesAreOne = (facts : Facts) (list : List BatchContent) (facts' : Facts)
     FilesRepresent facts' list' left → (facts ≡ facts') × (length list ≡ length list')
     × (drop facts.kept list ≡ drop facts.kept list')
 
--- what a lookup in memory and tables finds, at a number from the floor on, is what the map has
+-- what a lookup in memory and tables finds, at a number from the floor on, is what the batches
+-- leave there
 abbrev pub StoreFilesShowMaps : Type 0
 StoreFilesShowMaps =
     (facts : Facts) (list : List BatchContent) (left : Contents)
     → (files : FilesRepresent facts list left) → (at : ℕ) → facts.floor ≤ at
-    → at ≤ length list → (key : List ℕ) (found : Option (Option (List ℕ)))
+    → at ≤ length list → (key : StoredKey) (found : Option (Option (List ℕ)))
     → StoreFinds at list (store_of_version files.version facts.kept files.tables) key found
-    → option_flatten found ≡ map_of (take at list) key
+    → option_flatten found ≡ stored_map_of (take at list) key
 
 -- the first version, with a log without records, represents the empty list
 abbrev pub FirstFilesRepresent : Type 0

@@ -2,6 +2,7 @@
 #![tactic(auto)]
 
 mod adopting;
+mod finding;
 mod flushing;
 pub mod laws;
 mod merging;

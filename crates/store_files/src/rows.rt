@@ -1,7 +1,7 @@
 //! Reads of rows, through cursors over memory and tables.
 ghost use Rattle.std.specs.Prelude.{◌≡◌, ◌≤◌, List, take, All, IfErr, IfOk, IsErrOf};
 ghost use Rattle.kv_types.specs.Pages.{page_of};
-ghost use Rattle.kv_types.specs.{BatchContent, map_of};
+ghost use Rattle.kv_types.specs.{BatchContent, map_of, stored_span};
 ghost use Rattle.disk.specs.{IsEnvironmental, IsSame, State};
 ghost use Rattle.row_pages.specs.{HasRowsOf};
 ghost use Rattle.store_tables.specs.declared.error.EngineError.TheVariants.{Damaged, Disk, Memory};
@@ -14,7 +14,7 @@ ghost use Rattle.batch_logs.specs.Reads.{OnlyReads};
 
 use crate::{EngineError, StoreFiles};
 use disk::Disk;
-use kv_types::laws::pages_agree;
+use kv_types::laws::{pages_agree, rows_are_stored};
 use kv_types::{Number, Page, Range};
 use merge_iter::Cursor;
 use row_pages::read_page;
@@ -44,11 +44,12 @@ impl StoreFiles {
         ensures intact { IfOk result (λ rows. (meant : State) (files : _)
             (list : List BatchContent) → ⟦<CachedDisk<D> as Disk>⟧.is_honest files →
             FilesHold meant self.now list →
-            AreIntactIn range.now (⟦<CachedDisk<D> as Disk>⟧.state files) meant
+            AreIntactIn (stored_span range.now) (⟦<CachedDisk<D> as Disk>⟧.state files) meant
             (known_version self.now).version.tables → ⟦<StoreRows<'a, D> as Cursor>⟧.is_sound
             (⟦<CachedDisk<D> as Disk>⟧.state files) rows files) }
     {
         versions_name_own_files(); // law: no two tables have one file
+        rows_are_stored(); // law: what batches leave at the keys of rows is what their map has
         let mut cursors = self.tables.cursors(alloc, range)?;
         cursors.push(StoreCursor::of_memtable(&self.memtable).unwrap())?;
         Ok(rows_at(alloc, cursors, at))
@@ -75,7 +76,7 @@ impl StoreFiles {
             IfErr result (IsEnvironmental Disk Memory)) }
         ensures damaged { IfMeant ⟦<CachedDisk<D> as Disk>⟧ files.old self.now (λ _.
             IsErrOf result Damaged →
-            OneIsDamagedIn range.now (⟦<CachedDisk<D> as Disk>⟧.state files.old)
+            OneIsDamagedIn (stored_span range.now) (⟦<CachedDisk<D> as Disk>⟧.state files.old)
             (known_version self.now).version.tables) }
     {
         pages_agree(); // law: a map has one page in a range

@@ -1,22 +1,15 @@
 //! The open files of a store: manifest, logs and tables, and the entries that no table has yet.
-ghost use Rattle.std.specs.Prelude.{◌≡◌, ◌+◌, ◌<◌, ◌≤◌, take, IsErrOf, Some};
-ghost use Rattle.std.specs.Prelude.{length, IfErr, IfOk, IsSomeAnd, MatchResult};
-ghost use Rattle.std.specs.Option.{option_flatten};
-ghost use Rattle.kv_types.specs.declared.bounds.TheConstants.{MAX_VALUE};
-ghost use Rattle.kv_types.specs.{map_of, place};
+ghost use Rattle.std.specs.Prelude.{◌≡◌, ◌+◌, ◌<◌, ◌≤◌, IsErrOf, MatchResult, Some};
+ghost use Rattle.kv_types.specs.{place};
 ghost use Rattle.disk.specs.{IsEnvironmental, IsSame, IsSameBut, KeepsDisk};
 ghost use Rattle.disk.specs.{MakesCalls};
 ghost use Rattle.batch_logs.specs.BatchLogs.{HasFullLog, newest_file};
 ghost use Rattle.store_files.specs.BesideFiles.{with_free};
-ghost use Rattle.store_tables.specs.declared.error.EngineError.TheVariants.{Damaged, Disk, Memory};
+ghost use Rattle.store_tables.specs.declared.error.EngineError.TheVariants.{Disk, Memory};
 ghost use Rattle.store_tables.specs.Errors.{IsEnd};
 ghost use Rattle.store_files.specs.OpenFiles.{AreUsableFiles, FilesHold, batch_count, known_facts};
-ghost use Rattle.store_files.specs.OpenFiles.{HasSameFacts, IfHeld, IfMeant, IsNextNumber};
-ghost use Rattle.store_files.specs.OpenFiles.{ListGrows, MemoryLacks};
-ghost use Rattle.store_files.specs.OpenFiles.{WereMeantToHold, known_version, trimmed_count};
-ghost use Rattle.memtable.specs.{HasFailedAdd, TableHolds};
-ghost use Rattle.store_tables.specs.LevelTables.{EntriesHave, found_value};
-ghost use Rattle.store_tables.specs.TableReads.{NeedsNoDisk, OneNamedLacksBlock};
+ghost use Rattle.store_files.specs.OpenFiles.{HasSameFacts, IfMeant, IsNextNumber, ListGrows};
+ghost use Rattle.store_files.specs.OpenFiles.{WereMeantToHold, trimmed_count};
 ghost use Rattle.batch_logs.specs.Reads.{OnlyReads};
 ghost use Rattle.std.specs.Prelude.{◌++◌, ◌∷◌, []};
 ghost use Rattle.store_files.specs.Plans.{KeepsPlans};
@@ -26,16 +19,13 @@ use crate::EngineError;
 use batch_logs::BatchLogs;
 use disk::Disk;
 use disk::laws::{durable_file_is_left, durable_is_left, reads_are_outcomes};
-use kv_types::{Batch, Key, Number, Value};
+use kv_types::{Batch, Number};
 use manifest::Manifest;
 use manifest::laws::held_versions_are_left;
-use memtable::{Found, Memtable};
-use sorted_table::FoundVersion;
-use std::alloc::{AllocError, Global};
-use store_model::{appends_keep, look_ups_are_maps};
+use memtable::Memtable;
+use std::alloc::Global;
+use store_model::appends_keep;
 use store_tables::LevelTables;
-use store_tables::laws::{levels_rise, table_look_ups_are_maps};
-use table_files::CachedDisk;
 
 /// The open files of a store. Each call that reaches them is lent the disk.
 #[derive(Drop)]
@@ -47,40 +37,6 @@ pub struct StoreFiles {
     pub(crate) memtable: Memtable,
     // The first file that is free: no file has this number or a greater one.
     pub(crate) free_file: u64,
-}
-
-// What memory has of the key: a value, a deletion, or nothing.
-fn memory_value(
-    memtable: &Memtable,
-    at: Number,
-    key: &Key,
-) -> Result<Option<Option<Value>>, AllocError>
-    requires { HasFailedAdd memtable.now → ⊥ }
-    ensures { IfOk result (EntriesHave at (TableHolds memtable.now) key.now) }
-{
-    match memtable.get(key, at).unwrap() {
-        Found::Value(value) => Ok(Some(Some(value.clone()?))),
-        Found::Deleted => Ok(Some(None)),
-        Found::None => Ok(None),
-    }
-}
-
-// The value of a version that was found; a deletion has none.
-fn value_of(found: Option<FoundVersion>) -> Result<Option<Value>, EngineError>
-    ensures value { IfOk result (λ value. value ≡ option_flatten (found_value found)) }
-    ensures damaged { IfErr result (λ e. (e ≡ EngineError.Damaged)
-        × IsSomeAnd (option_flatten (found_value found)) (λ bytes. MAX_VALUE < length bytes)) }
-{
-    let Some(found) = found else {
-        return Ok(None);
-    };
-    let Some(bytes) = found.value else {
-        return Ok(None);
-    };
-    match Value::new(bytes) {
-        Ok(value) => Ok(Some(value)),
-        Err(_) => Err(EngineError::Damaged),
-    }
 }
 
 impl StoreFiles {
@@ -153,41 +109,5 @@ impl StoreFiles {
             (IsEnvironmental Disk Memory)) }
     {
         self.logs.batch(alloc, disk, number)
-    }
-
-    /// The value of a key in the map of the first `at` batches: looked up in memory, and then in
-    /// the tables. Where memory has an entry of the key that the number may see, the disk is not
-    /// asked. `Damaged` only where a table whose range holds the key lacks the block in which the
-    /// key would be, and no table of a lesser level has an entry of the key that the number may
-    /// see.
-    pub fn get<D: Disk + Drop>(
-        &self,
-        alloc: Global,
-        files: &mut CachedDisk<D>,
-        at: Number,
-        key: &Key,
-    ) -> Result<Option<Value>, EngineError>
-        requires usable { AreUsableFiles self.now }
-        ensures reads { OnlyReads ⟦<CachedDisk<D> as Disk>⟧ files.old files.new IsSame result }
-        ensures found { IfMeant ⟦<CachedDisk<D> as Disk>⟧ files.old self.now (λ list.
-            (known_facts self.now).floor ≤ at → at ≤ batch_count self.now →
-            IfOk result (λ value. value ≡ map_of (take at list) key.now)) }
-        ensures intact { IfHeld ⟦<CachedDisk<D> as Disk>⟧ files.old self.now (λ list.
-            IfErr result (IsEnvironmental Disk Memory)) }
-        ensures damaged { IfMeant ⟦<CachedDisk<D> as Disk>⟧ files.old self.now (λ _.
-            IsErrOf result Damaged →
-            OneNamedLacksBlock (⟦<CachedDisk<D> as Disk>⟧.state files.old)
-            (known_version self.now).version.tables key.now at) }
-        ensures memory { (MemoryLacks self.now at key.now → ⊥) →
-            NeedsNoDisk files.old files.new result }
-    {
-        levels_rise(); // law: tables stand in order of level
-        // laws: what memory or else the tables have of a key is what the map has
-        look_ups_are_maps();
-        table_look_ups_are_maps();
-        if let Some(value) = memory_value(&self.memtable, at, key)? {
-            return Ok(value);
-        }
-        value_of(self.tables.get(alloc, files, key, at)?)
     }
 }

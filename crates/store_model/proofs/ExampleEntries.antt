@@ -6,13 +6,15 @@ use Rattle.std.specs.Option.{option_or}
 use Rattle.std.specs.Str.{bytes_eq}
 use Rattle.std.proofs.lemmas.Bool.{cond_both}
 use Rattle.std.proofs.lemmas.Slice.Eq.{bytes_eq-Decides}
+use Rattle.byte_fields.specs.{StoredKey}
 use Rattle.kv_types.specs.declared.edit.Edit.{Edit}
-use Rattle.kv_types.specs.{BatchContent, Entry, all_entries, last_edit}
+use Rattle.kv_types.specs.{BatchContent, Entry, all_entries, last_edit, stored_edits, unmarked}
 use Rattle.kv_types.specs.Maps.{key_of, value_put}
 use Rattle.kv_types.specs.Examples.{entry_at}
 use Rattle.store_model.specs.Tables.{LevelTable, tables_entries}
 use Rattle.store_model.specs.Stores.{memory_entries, store_entries}
-use Rattle.store_model.specs.Examples.{deep_table, flushed_table, three_batches, two_tables}
+use Rattle.store_model.specs.Examples.{deep_table, flushed_table, key_a, key_b, key_c}
+use Rattle.store_model.specs.Examples.{three_batches, two_tables}
 use Rattle.store_model.specs.PlacesLemmas.{contains_head, contains_next, contains_it, for_two}
 
 -- keys that the test tells apart differ
@@ -57,36 +59,36 @@ given (edit ∷ edits) key value is =
 
 -- of a, the first batch
 abbrev pub a1 : Entry
-a1 = entry_at (codes "a") 1 (Some (codes "1"))
+a1 = entry_at key_a 1 (Some (codes "1"))
 
 -- of b, the first
 abbrev pub b1 : Entry
-b1 = entry_at (codes "b") 1 (Some (codes "1"))
+b1 = entry_at key_b 1 (Some (codes "1"))
 
 -- of a, the second
 abbrev pub a2 : Entry
-a2 = entry_at (codes "a") 2 (Some (codes "2"))
+a2 = entry_at key_a 2 (Some (codes "2"))
 
 -- of b, the second, which deletes it
 abbrev pub b2 : Entry
-b2 = entry_at (codes "b") 2 None
+b2 = entry_at key_b 2 None
 
 -- of c, the third
 abbrev pub c3 : Entry
-c3 = entry_at (codes "c") 3 (Some (codes "1"))
+c3 = entry_at key_c 3 (Some (codes "1"))
 
 -- the batches by themselves
 abbrev first_batch : BatchContent
-first_batch = unwrap_or (slice_get three_batches 0) []
+first_batch = unwrap_or (slice_get three_batches 0) (unmarked [])
 
 abbrev second_batch : BatchContent
-second_batch = unwrap_or (slice_get three_batches 1) []
+second_batch = unwrap_or (slice_get three_batches 1) (unmarked [])
 
 abbrev third_batch : BatchContent
-third_batch = unwrap_or (slice_get three_batches 2) []
+third_batch = unwrap_or (slice_get three_batches 2) (unmarked [])
 
 -- what holds of an entry holds of one with the same key, number and value
-one_of : (P : Entry → Type 0) (key : List ℕ) (number : ℕ) (value : Option (List ℕ)) (e : Entry)
+one_of : (P : Entry → Type 0) (key : StoredKey) (number : ℕ) (value : Option (List ℕ)) (e : Entry)
     → key ≡ e.key → e.number ≡ number → value ≡ e.value → P (entry_at key number value) → P e
 one_of P key number value e k n v here =
     let same : entry_at key number value ≡ e =
@@ -97,27 +99,27 @@ module _ (P : Entry → Type 0) where
   -- an entry of the three batches is one of five
   pub for_all : P a1 → P b1 → P a2 → P b2 → P c3 → (e : Entry) → all_entries three_batches e → P e
   for_all pa1 pb1 pa2 pb2 pc3 e (zero, batch, is, (number, last)) =
-      let found = ap (λ o. last_edit (unwrap_or o []) e.key) is in
-      elim (given first_batch e.key e.value (found ∙ last)) [
-        | inl h ↦ one_of P (codes "a") 1 (Some (codes "1")) e h.0 number h.1 pa1
+      let found = ap (λ o. last_edit (stored_edits (unwrap_or o (unmarked []))) e.key) is in
+      elim (given (stored_edits first_batch) e.key e.value (found ∙ last)) [
+        | inl h ↦ one_of P key_a 1 (Some (codes "1")) e h.0 number h.1 pa1
         | inr h ↦ elim h [
-          | inl g ↦ one_of P (codes "b") 1 (Some (codes "1")) e g.0 number g.1 pb1
+          | inl g ↦ one_of P key_b 1 (Some (codes "1")) e g.0 number g.1 pb1
           | inr none ↦ absurd none
         ]
       ]
   for_all pa1 pb1 pa2 pb2 pc3 e (suc zero, batch, is, (number, last)) =
-      let found = ap (λ o. last_edit (unwrap_or o []) e.key) is in
-      elim (given second_batch e.key e.value (found ∙ last)) [
-        | inl h ↦ one_of P (codes "a") 2 (Some (codes "2")) e h.0 number h.1 pa2
+      let found = ap (λ o. last_edit (stored_edits (unwrap_or o (unmarked []))) e.key) is in
+      elim (given (stored_edits second_batch) e.key e.value (found ∙ last)) [
+        | inl h ↦ one_of P key_a 2 (Some (codes "2")) e h.0 number h.1 pa2
         | inr h ↦ elim h [
-          | inl g ↦ one_of P (codes "b") 2 None e g.0 number g.1 pb2
+          | inl g ↦ one_of P key_b 2 None e g.0 number g.1 pb2
           | inr none ↦ absurd none
         ]
       ]
   for_all pa1 pb1 pa2 pb2 pc3 e (suc (suc zero), batch, is, (number, last)) =
-      let found = ap (λ o. last_edit (unwrap_or o []) e.key) is in
-      elim (given third_batch e.key e.value (found ∙ last)) [
-        | inl h ↦ one_of P (codes "c") 3 (Some (codes "1")) e h.0 number h.1 pc3
+      let found = ap (λ o. last_edit (stored_edits (unwrap_or o (unmarked []))) e.key) is in
+      elim (given (stored_edits third_batch) e.key e.value (found ∙ last)) [
+        | inl h ↦ one_of P key_c 3 (Some (codes "1")) e h.0 number h.1 pc3
         | inr none ↦ absurd none
       ]
   for_all pa1 pb1 pa2 pb2 pc3 e (suc (suc (suc i)), batch, is, of) = absurd (cc (is))

@@ -2,7 +2,7 @@
 use Rattle.std.proofs.Common.{◌≡◌, ◌⊎◌, inl, inr, ℕ, ◌<◌, ◌≤◌, List, [], ◌∷◌, Contains}
 use Rattle.std.proofs.Common.{Some, None, codes, refl, arith}
 use Rattle.kv_types.specs.{Entry, IsUnseen}
-use Rattle.kv_types.specs.Entries.{ViewsAreMaps}
+use Rattle.kv_types.specs.Entries.{ViewsAreStored}
 use Rattle.store_model.specs.Keys.{AreDisjointRanges, RangeHolds, RangeLiesIn}
 use Rattle.store_model.specs.Tables.{FitsRange, LevelTable, tables_entries}
 use Rattle.store_model.specs.Stores.{StoreRepresents, memory_entries}
@@ -13,6 +13,7 @@ use Rattle.store_model.specs.LookUps.{TableLacks}
 use Rattle.store_model.specs.Examples.{MergeExamples, both_keys, both_merge, deep_table, first_key}
 use Rattle.store_model.specs.Examples.{flushed_table, full_table, merged_store, merged_table}
 use Rattle.store_model.specs.Examples.{three_batches, two_tables}
+use Rattle.store_model.specs.Examples.{key_a, key_b}
 use Rattle.store_model.specs.PlacesLemmas.{contains_head, contains_it, contains_next, for_more}
 use Rattle.store_model.specs.PlacesLemmas.{for_one, for_two}
 use Rattle.store_model.proofs.ExampleEntries.{a1, a1_there, a2, a2_there, b1, b1_there, b2}
@@ -91,7 +92,7 @@ merged_all =
     (inr (inl (a2, a2_there, refl, omega arith, omega arith)))
     (inr (inl (b2, b2_there, refl, omega arith, omega arith)))
     (inl (merged_table, contains_it merged_table, contains_it a2))
-    (inr (inr (refl, omega arith, no_deeper (codes "b"))))
+    (inr (inr (refl, omega arith, no_deeper key_b)))
 
 merged_own : HaveOwnRanges (merged_table ∷ [])
 merged_own = record {
@@ -232,27 +233,27 @@ edited = record {
   new = λ t in_t. in_t;
 }
 
-merged_represents : ViewsAreMaps → StoreRepresents three_batches merged_store
+merged_represents : ViewsAreStored → StoreRepresents three_batches merged_store
 merged_represents law =
     let raised = raise_keeps three_batches two_tables 2 2 (two_represent law) raise in
     let way = plan_under_way (raised_store two_tables 2 2) both_merge leveled planned refl in
     merge_keeps three_batches (raised_store two_tables 2 2) both_merge 2 (merged_table ∷ [])
     (merged_table ∷ []) raised way at_floor_2 edited (omega arith)
 
-a_not_b : codes "a" ≡ codes "b" → ⊥
-a_not_b = other_key (codes "a") (codes "b") refl
+a_not_b : key_a ≡ key_b → ⊥
+a_not_b = other_key key_a key_b refl
 
-merged_lacks : (t : LevelTable) → Contains merged_store.tables t → TableLacks 3 t (codes "b")
+merged_lacks : (t : LevelTable) → Contains merged_store.tables t → TableLacks 3 t key_b
 merged_lacks t in_t e seen same =
     for_one (λ (t : LevelTable). Contains t.entries e → ⊥) merged_table
-    (λ h. for_one (λ it. it.key ≡ codes "b" → ⊥) a2 a_not_b e h same) t in_t seen.0
+    (λ h. for_one (λ it. it.key ≡ key_b → ⊥) a2 a_not_b e h same) t in_t seen.0
 
-memory_lacks : IsUnseen 3 (memory_entries three_batches merged_store) (codes "b")
+memory_lacks : IsUnseen 3 (memory_entries three_batches merged_store) key_b
 memory_lacks e seen same =
     let high = seen.0.1 in
-    for_memory (λ it. it.key ≡ codes "b" → ⊥) c_not_b e (omega (arith, high), high, seen.0.2) same
+    for_memory (λ it. it.key ≡ key_b → ⊥) c_not_b e (omega (arith, high), high, seen.0.2) same
 
-pub merge_examples : ViewsAreMaps → MergeExamples
+pub merge_examples : ViewsAreStored → MergeExamples
 merge_examples law = record {
   planned = planned;
   at_floor_2 = at_floor_2;

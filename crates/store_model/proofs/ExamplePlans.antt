@@ -1,9 +1,10 @@
 -- The worked example: which merges are planned.
-use Rattle.std.proofs.Common.{◌≡◌, ◌⊎◌, inl, [], ◌∷◌, codes, refl, arith}
+use Rattle.std.proofs.Common.{◌≡◌, ◌⊎◌, inl, [], ◌∷◌, refl, arith}
 use Rattle.store_model.specs.Keys.{AreDisjointRanges, RangeLiesIn}
 use Rattle.store_model.specs.Steps.{IsPlanned}
 use Rattle.store_model.specs.Examples.{PlanExamples, a_table, b_table, both_keys, first_key}
 use Rattle.store_model.specs.Examples.{merge_of}
+use Rattle.store_model.specs.Examples.{key_a, key_b}
 use Rattle.store_model.specs.PlacesLemmas.{contains_it, contains_none, for_one, for_two}
 use Rattle.store_model.proofs.ExampleEntries.{other_key}
 use Rattle.store_model.proofs.ExampleStores.{a_not_a}
@@ -30,15 +31,15 @@ level_6 p = let le = p.level in absurd (omega (arith, le))
 too_great : IsPlanned (merge_of 0 both_keys (a_table 0 ∷ b_table 1 ∷ [])) → ⊥
 too_great p =
     let end = p.greatest in
-    for_two (λ t. t.level ≡ 0 → t.range.greatest ≡ codes "b" → ⊥) (a_table 0) (b_table 1)
-    (λ at is. other_key (codes "a") (codes "b") refl is) (λ at is. absurd (omega (arith, at)))
+    for_two (λ t. t.level ≡ 0 → t.range.greatest ≡ key_b → ⊥) (a_table 0) (b_table 1)
+    (λ at is. other_key key_a key_b refl is) (λ at is. absurd (omega (arith, at)))
     end.0 end.1 end.2 end.3
 
 too_small : IsPlanned (merge_of 0 both_keys (b_table 0 ∷ a_table 1 ∷ [])) → ⊥
 too_small p =
     let end = p.least in
-    for_two (λ t. t.level ≡ 0 → t.range.least ≡ codes "a" → ⊥) (b_table 0) (a_table 1)
-    (λ at is. other_key (codes "b") (codes "a") refl is) (λ at is. absurd (omega (arith, at)))
+    for_two (λ t. t.level ≡ 0 → t.range.least ≡ key_a → ⊥) (b_table 0) (a_table 1)
+    (λ at is. other_key key_b key_a refl is) (λ at is. absurd (omega (arith, at)))
     end.0 end.1 end.2 end.3
 
 no_upper : IsPlanned (merge_of 0 first_key (a_table 1 ∷ [])) → ⊥

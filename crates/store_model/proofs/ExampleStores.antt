@@ -2,8 +2,9 @@
 use Rattle.std.proofs.Common.{◌≡◌, ◌⊎◌, inl, inr, ℕ, ◌<◌, ◌≤◌, List, [], ◌∷◌, Contains, take}
 use Rattle.std.proofs.Common.{Option, Some, None, codes, refl, sym, arith}
 use Rattle.std.specs.declared.cmp.Ordering.TheVariants.{Less, Equal, Greater}
-use Rattle.kv_types.specs.{Entry, IsUnseen, StoredKey, all_entries, map_of}
-use Rattle.kv_types.specs.Entries.{ViewsAreMaps}
+use Rattle.byte_fields.specs.{StoredKey}
+use Rattle.kv_types.specs.{Entry, IsUnseen, all_entries, stored_map_of}
+use Rattle.kv_types.specs.Entries.{ViewsAreStored}
 use Rattle.store_model.specs.Keys.{AreDisjointRanges, KeyPrecedes, RangeHolds}
 use Rattle.store_model.specs.Tables.{AreLeveled, FitsRange, LevelTable, level_entries}
 use Rattle.store_model.specs.Tables.{tables_entries}
@@ -12,10 +13,11 @@ use Rattle.store_model.specs.LookUps.{AboveLacks, NewestHas, TableLacks}
 use Rattle.store_model.specs.Examples.{StoreExamples, both_keys}
 use Rattle.store_model.specs.Examples.{deep_table, flushed_table}
 use Rattle.store_model.specs.Examples.{three_batches, two_tables}
+use Rattle.store_model.specs.Examples.{key_a, key_b, key_c}
 use Rattle.store_model.specs.PlacesLemmas.{contains_head, contains_it, contains_next}
 use Rattle.store_model.specs.PlacesLemmas.{for_two}
 use Rattle.store_model.specs.StoresLemmas.{one_entry}
-use Rattle.store_model.specs.ViewsLemmas.{shows_alike}
+use Rattle.store_model.specs.ViewsLemmas.{shown_in_both, shows_alike}
 use Rattle.store_model.proofs.ExampleEntries.{a1, a2, b1}
 use Rattle.store_model.proofs.ExampleEntries.{b2}
 use Rattle.store_model.proofs.ExampleEntries.{c3_in_memory, deep_there, flushed_there, for_deep}
@@ -24,13 +26,13 @@ use Rattle.store_model.proofs.ExampleEntries.{in_store, other_key}
 
 -- ---- keys
 
-pub a_not_a : KeyPrecedes (codes "a") (codes "a") → ⊥
+pub a_not_a : KeyPrecedes key_a key_a → ⊥
 a_not_a h = let e : Equal ≡ Less = h in absurd cc
 
-pub b_not_a : KeyPrecedes (codes "b") (codes "a") → ⊥
+pub b_not_a : KeyPrecedes key_b key_a → ⊥
 b_not_a h = let e : Greater ≡ Less = h in absurd cc
 
-pub b_not_b : KeyPrecedes (codes "b") (codes "b") → ⊥
+pub b_not_b : KeyPrecedes key_b key_b → ⊥
 b_not_b h = let e : Equal ≡ Less = h in absurd cc
 
 -- ---- the store
@@ -119,7 +121,7 @@ leveled = record {
 }
 
 -- the store has every entry of the batches, so that its views are theirs
-pub two_represent : ViewsAreMaps → StoreRepresents three_batches two_tables
+pub two_represent : ViewsAreStored → StoreRepresents three_batches two_tables
 two_represent law = record {
   tables = leveled;
   kept_floor = omega arith;
@@ -128,33 +130,36 @@ two_represent law = record {
   flushed_count = omega arith;
   floor_count = omega arith;
   views = λ at high short key.
-      let value = map_of (take at three_batches) key in
+      let value = stored_map_of (take at three_batches) key in
       shows_alike (all_entries three_batches) (store_entries three_batches two_tables) at key value
       (λ e le h. in_store e h) (λ e le h. from_store e h)
       ((law three_batches at key value).1 refl);
+  real = λ at high short entry shown.
+      shown_in_both (store_entries three_batches two_tables) (all_entries three_batches) at entry
+      (λ e le h. from_store e h) (λ e le h. in_store e h) shown;
 }
 
 -- ---- reads
 
 -- c3 has another key than what is looked up
-memory_lacks : (at : ℕ) (key : StoredKey) → (codes "c" ≡ key → ⊥)
+memory_lacks : (at : ℕ) (key : StoredKey) → (key_c ≡ key → ⊥)
     → IsUnseen at (memory_entries three_batches two_tables) key
 memory_lacks at key other e seen same =
     for_memory (λ it. it.key ≡ key → ⊥) other e seen.0 same
 
-c_not_a : codes "c" ≡ codes "a" → ⊥
-c_not_a = other_key (codes "c") (codes "a") refl
+c_not_a : key_c ≡ key_a → ⊥
+c_not_a = other_key key_c key_a refl
 
-pub c_not_b : codes "c" ≡ codes "b" → ⊥
-c_not_b = other_key (codes "c") (codes "b") refl
+pub c_not_b : key_c ≡ key_b → ⊥
+c_not_b = other_key key_c key_b refl
 
-memory_finds : NewestHas 3 (memory_entries three_batches two_tables) (codes "c") (Some (codes "1"))
+memory_finds : NewestHas 3 (memory_entries three_batches two_tables) key_c (Some (codes "1"))
 memory_finds = (
   3,
   record { seen = (c3_in_memory, omega arith); newest = λ other seen same. seen.1 },
 )
 
-nothing_above : (at : ℕ) (key : StoredKey) → (codes "c" ≡ key → ⊥)
+nothing_above : (at : ℕ) (key : StoredKey) → (key_c ≡ key → ⊥)
     → AboveLacks at three_batches two_tables key 0
 nothing_above at key other = record {
   memory = memory_lacks at key other;
@@ -168,7 +173,7 @@ flushed_lacks key e seen same =
     let le = seen.1 in
     omega (arith, two, le)
 
-level_0_lacks : (key : StoredKey) → (codes "c" ≡ key → ⊥)
+level_0_lacks : (key : StoredKey) → (key_c ≡ key → ⊥)
     → AboveLacks 1 three_batches two_tables key 1
 level_0_lacks key other = record {
   memory = memory_lacks 1 key other;
@@ -203,46 +208,46 @@ level_1_finds key value has = (
   },
 )
 
-memory_is_later : IsUnseen 2 (memory_entries three_batches two_tables) (codes "c")
+memory_is_later : IsUnseen 2 (memory_entries three_batches two_tables) key_c
 memory_is_later e seen same =
     let le = seen.1 in
     for_memory (λ it. it.number ≤ 2 → ⊥) (λ it. omega (arith, it)) e seen.0 le
 
-a_not_c : codes "a" ≡ codes "c" → ⊥
-a_not_c = other_key (codes "a") (codes "c") refl
+a_not_c : key_a ≡ key_c → ⊥
+a_not_c = other_key key_a key_c refl
 
-b_not_c : codes "b" ≡ codes "c" → ⊥
-b_not_c = other_key (codes "b") (codes "c") refl
+b_not_c : key_b ≡ key_c → ⊥
+b_not_c = other_key key_b key_c refl
 
-c_nowhere : (t : LevelTable) → Contains two_tables.tables t → TableLacks 2 t (codes "c")
+c_nowhere : (t : LevelTable) → Contains two_tables.tables t → TableLacks 2 t key_c
 c_nowhere t in_t e seen same =
-    for_tables (λ it. it.key ≡ codes "c" → ⊥) a_not_c b_not_c a_not_c b_not_c e (t, in_t, seen.0)
+    for_tables (λ it. it.key ≡ key_c → ⊥) a_not_c b_not_c a_not_c b_not_c e (t, in_t, seen.0)
     same
 
-pub store_examples : ViewsAreMaps → StoreExamples
+pub store_examples : ViewsAreStored → StoreExamples
 store_examples law = record {
   represents = two_represent law;
   in_memory = inl memory_finds;
   in_level_0 = inr (
     0,
-    nothing_above 3 (codes "a") c_not_a,
-    level_0_finds 3 (omega arith) (codes "a") (Some (codes "2")) (contains_head a2 (b2 ∷ [])),
+    nothing_above 3 key_a c_not_a,
+    level_0_finds 3 (omega arith) key_a (Some (codes "2")) (contains_head a2 (b2 ∷ [])),
   );
   in_level_1 = inr (
     1,
-    level_0_lacks (codes "a") c_not_a,
-    level_1_finds (codes "a") (Some (codes "1")) (contains_head a1 (b1 ∷ [])),
+    level_0_lacks key_a c_not_a,
+    level_1_finds key_a (Some (codes "1")) (contains_head a1 (b1 ∷ [])),
   );
   deletion = inr (
     0,
-    nothing_above 2 (codes "b") c_not_b,
-    level_0_finds 2 (omega arith) (codes "b") None
+    nothing_above 2 key_b c_not_b,
+    level_0_finds 2 (omega arith) key_b None
         (contains_next a2 (b2 ∷ []) b2 (contains_it b2)),
   );
   before_deletion = inr (
     1,
-    level_0_lacks (codes "b") c_not_b,
-    level_1_finds (codes "b") (Some (codes "1"))
+    level_0_lacks key_b c_not_b,
+    level_1_finds key_b (Some (codes "1"))
         (contains_next a1 (b1 ∷ []) b1 (contains_it b1)),
   );
   nowhere = (memory_is_later, c_nowhere);

@@ -1,7 +1,7 @@
 -- A flush keeps the store, and a merge under way.
 use Rattle.std.proofs.Common.{◌≡◌, ◌⊎◌, inl, inr, ℕ, suc, ◌<◌, ◌≤◌, List, [], ◌∷◌, length, take}
 use Rattle.std.proofs.Common.{Contains, refl, subst, arith}
-use Rattle.kv_types.specs.{BatchContent, Entry, map_of}
+use Rattle.kv_types.specs.{BatchContent, Entry, stored_map_of}
 use Rattle.store_model.specs.Keys.{AreDisjointRanges}
 use Rattle.store_model.specs.Tables.{AreLeveled, FitsRange, LevelTable, tables_entries}
 use Rattle.store_model.specs.Stores.{StoreRepresents, StoreState, store_entries}
@@ -9,7 +9,7 @@ use Rattle.store_model.specs.Steps.{AreAlikeDeeper, AreEdited, IsFlush, IsLater,
 use Rattle.store_model.specs.Steps.{MergePlan, PlanFits, flushed_store}
 use Rattle.store_model.specs.PlacesLemmas.{contains_none, contains_one, contains_it}
 use Rattle.store_model.specs.StoresLemmas.{entry_within, one_entry}
-use Rattle.store_model.specs.ViewsLemmas.{shows_alike}
+use Rattle.store_model.specs.ViewsLemmas.{shown_in_both, shows_alike}
 
 module _ (l : List BatchContent) (store : StoreState) (new : LevelTable) (after : List LevelTable)
     (ok : StoreRepresents l store) (flush : IsFlush l store new)
@@ -162,8 +162,12 @@ module _ (l : List BatchContent) (store : StoreState) (new : LevelTable) (after 
         floor_count = ok.floor_count;
         views = λ at high short key.
             shows_alike (store_entries l store) (store_entries l (flushed_store l store after)) at
-            key (map_of (take at l) key) (λ a le h. to_flushed a h) (λ a le h. from_flushed a h)
+            key (stored_map_of (take at l) key) (λ a le h. to_flushed a h)
+            (λ a le h. from_flushed a h)
             (ok.views at high short key);
+        real = λ at high short entry shown. ok.real at high short entry
+            (shown_in_both (store_entries l (flushed_store l store after)) (store_entries l store)
+            at entry (λ a le h. from_flushed a h) (λ a le h. to_flushed a h) shown);
       }
 
   -- ---- a merge under way

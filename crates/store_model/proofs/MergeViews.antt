@@ -1,12 +1,14 @@
 -- A merge keeps the view at each number from its floor on, and so the store.
 use Rattle.std.proofs.Common.{◌≡◌, ◌⊎◌, inl, inr, ℕ, ◌<◌, ◌≤◌, List, take, Option}
-use Rattle.std.proofs.Common.{arith}
-use Rattle.kv_types.specs.{BatchContent, Entry, StoredKey, ViewShows, map_of}
+use Rattle.std.proofs.Common.{arith, refl}
+use Rattle.byte_fields.specs.{StoredKey}
+use Rattle.kv_types.specs.{BatchContent, Entry, IsShown, ViewShows, stored_map_of}
 use Rattle.store_model.specs.Tables.{LevelTable, AreLeveled, tables_entries}
 use Rattle.store_model.specs.Stores.{StoreState, StoreRepresents, memory_entries}
 use Rattle.store_model.specs.Steps.{AreAlikeDeeper, AreEdited, IsDropped, IsMerged, IsSpentDeletion}
 use Rattle.store_model.specs.Steps.{IsUnderWay, MergePlan, PlanFits, with_tables}
-use Rattle.store_model.specs.ViewsLemmas.{IsSurpassed, IsNeedless, shows_alike, shows_fewer}
+use Rattle.store_model.specs.ViewsLemmas.{IsSurpassed, IsNeedless, newest_before, shows_alike}
+use Rattle.store_model.specs.ViewsLemmas.{shows_fewer}
 use Rattle.store_model.proofs.Merges.{merge_leveled, nothing_below}
 
 -- M is what is not in tables: the entries in memory, say, whose numbers are above `flushed`
@@ -67,6 +69,15 @@ module _ (M : Entry → Type 0) (flushed base floor : ℕ) (plan : MergePlan)
     ]
   ]
 
+  -- what is shown was the newest before
+  pub shown_before : (at : ℕ) → floor ≤ at → (entry : Entry) (value : Option (List ℕ))
+      → ViewShows at Old entry.key value → IsShown at New entry → IsShown at Old entry
+  shown_before at high entry value view shown = record {
+    newest = newest_before Old New at entry.key value back (lost at high entry.key) view entry refl
+        shown.newest;
+    put = shown.put;
+  }
+
   -- the view is the same at each number from the floor on
   pub merge_view : (at : ℕ) → floor ≤ at → (key : StoredKey) (value : Option (List ℕ))
       → ViewShows at Old key value → ViewShows at New key value
@@ -108,5 +119,11 @@ module _ (batches : List BatchContent) (store : StoreState) (plan : MergePlan) (
     views = λ at high short key.
         merge_view (memory_entries batches store) store.flushed way.base floor plan store.tables
         outputs after ok.tables (λ a g. g.1) way.fits way.alike merged edited at
-        (omega (arith, low, high)) key (map_of (take at batches) key) (ok.views at high short key);
+        (omega (arith, low, high)) key (stored_map_of (take at batches) key)
+        (ok.views at high short key);
+    real = λ at high short entry shown. ok.real at high short entry
+        (shown_before (memory_entries batches store) store.flushed way.base floor plan store.tables
+        outputs after ok.tables (λ a g. g.1) way.fits way.alike merged edited at
+        (omega (arith, low, high)) entry (stored_map_of (take at batches) entry.key)
+        (ok.views at high short entry.key) shown);
   }

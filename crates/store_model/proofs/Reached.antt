@@ -1,8 +1,8 @@
 -- After every run the store represents its list.
 use Rattle.std.proofs.Common.{◌≡◌, inl, inr, ℕ, zero, suc, List, [], ◌∷◌, take, Contains}
 use Rattle.std.proofs.Common.{Option, Some, None, IfSome, refl, arith}
-use Rattle.kv_types.specs.{BatchContent, map_of}
-use Rattle.kv_types.specs.Entries.{ViewsAreMaps}
+use Rattle.kv_types.specs.{BatchContent, stored_map_of}
+use Rattle.kv_types.specs.Entries.{ViewsAreStored}
 use Rattle.store_model.specs.Tables.{LevelTable}
 use Rattle.store_model.specs.Stores.{StoreRepresents, StoreState, empty_store}
 use Rattle.store_model.specs.Steps.{AreEdited, IsFlush, IsUnderWay, MergePlan}
@@ -15,7 +15,7 @@ use Rattle.store_model.proofs.Flushes.{flush_keeps, flush_leaves}
 use Rattle.store_model.proofs.Plans.{plan_under_way}
 use Rattle.store_model.proofs.MergeViews.{merge_keeps}
 
-empty_map : (at : ℕ) (key : List ℕ) → map_of (take at []) key ≡ None
+empty_map : (at : ℕ) (key : List ℕ) → stored_map_of (take at []) key ≡ None
 empty_map zero key = refl
 empty_map (suc at) key = refl
 
@@ -45,6 +45,13 @@ empty_represents =
         ],
         empty_map at key,
       );
+      real = λ at high short entry shown. elim shown.newest.seen.0 [
+        | inl h ↦ absurd (none h.0 h.1)
+        | inr g ↦
+            let le = entry_within [] entry g.2 in
+            let lt = g.1 in
+            absurd (omega (arith, le, lt))
+      ];
     }
 
 -- a merge under way, if there is one, can end
@@ -69,7 +76,8 @@ raised_way store floor kept plan way = record {
   alike = way.alike;
 }
 
-pub reached : ViewsAreMaps → (l : List BatchContent) (store : StoreState) (plan : Option MergePlan)
+pub reached : ViewsAreStored
+    → (l : List BatchContent) (store : StoreState) (plan : Option MergePlan)
     → IsReached l store plan → StoreRepresents l store × CanEnd store plan
 reached law _ _ _ Created = (empty_represents, tt)
 reached law _ _ _ (Appended l store plan batch r) =

@@ -1,8 +1,10 @@
 -- The laws of stores.
 use Rattle.std.specs.Prelude.{◌≡◌, ◌↔◌, ℕ, ◌<◌, ◌≤◌, List, [], ◌∷◌, ◌++◌, length, take, drop}
-use Rattle.std.specs.Prelude.{Contains, Option, IfSome}
+use Rattle.std.specs.Prelude.{Contains, Option, IfSome, IsSome}
 use Rattle.std.specs.Option.{option_flatten}
-use Rattle.kv_types.specs.{BatchContent, Entry, StoredKey, ViewShows, map_of}
+use Rattle.byte_fields.specs.{StoredKey}
+use Rattle.kv_types.specs.{BatchContent, Entry, IsShown, ViewShows, all_entries}
+use Rattle.kv_types.specs.{stored_map_of}
 use Rattle.store_model.specs.Keys.{RangeHolds}
 use Rattle.store_model.specs.Tables.{AreLeveled, LevelTable, level_entries, tables_entries}
 use Rattle.store_model.specs.Stores.{StoreRepresents, StoreState, empty_store, memory_entries}
@@ -12,19 +14,20 @@ use Rattle.store_model.specs.Steps.{AreEdited, IsFlush, IsMerged, IsOverwritten,
 use Rattle.store_model.specs.Steps.{IsUnderWay, MergePlan, flushed_store, raised_store, with_tables}
 use Rattle.store_model.specs.Outputs.{AreInKeyOrder, HaveOwnRanges}
 use Rattle.store_model.specs.Runs.{IsReached}
-use Rattle.store_model.specs.LookUps.{StoreFinds, replayed_entries}
+use Rattle.store_model.specs.LookUps.{StoreFinds, StoreStopsAt, replayed_entries}
 use Rattle.store_model.specs.Logs.{AreLogsOf, left_later, trimmed_to}
 use Rattle.store_model.specs.Sweeps.{IsNextInSweep}
 
 -- ---- what a store shows
 
--- the view of the store at a number shows of each key exactly what the map has
+-- the view of the store at a number shows of each stored key exactly what the batches leave there
 abbrev pub StoreViewsAreMaps : Type 0
 StoreViewsAreMaps =
     (batches : List BatchContent) (store : StoreState) → StoreRepresents batches store
     → (at : ℕ) → store.floor ≤ at → at ≤ length batches
-    → (key : List ℕ) (value : Option (List ℕ)) →
-    ViewShows at (store_entries batches store) key value ↔ (map_of (take at batches) key ≡ value)
+    → (key : StoredKey) (value : Option (List ℕ)) →
+    ViewShows at (store_entries batches store) key value
+    ↔ (stored_map_of (take at batches) key ≡ value)
 
 -- no two entries of the store share key and number
 abbrev pub StoreEntriesDiffer : Type 0
@@ -33,13 +36,22 @@ StoreEntriesDiffer =
     → (a b : Entry) → store_entries batches store a → store_entries batches store b
     → a.key ≡ b.key → a.number ≡ b.number → a ≡ b
 
--- what a lookup finds first, in memory and then level by level, is what the map has
+-- what a lookup finds first, in memory and then level by level, is what the batches leave there
 abbrev pub LookUpsAreMaps : Type 0
 LookUpsAreMaps =
     (batches : List BatchContent) (store : StoreState) → StoreRepresents batches store
     → (at : ℕ) → store.floor ≤ at → at ≤ length batches
-    → (key : List ℕ) (found : Option (Option (List ℕ))) → StoreFinds at batches store key found
-    → option_flatten found ≡ map_of (take at batches) key
+    → (key : StoredKey) (found : Option (Option (List ℕ))) → StoreFinds at batches store key found
+    → option_flatten found ≡ stored_map_of (take at batches) key
+
+-- the entry at which a lookup stops, where it is no deletion, is one of the batches: their view at
+-- the number has it
+abbrev pub LookUpsAreShown : Type 0
+LookUpsAreShown =
+    (batches : List BatchContent) (store : StoreState) → StoreRepresents batches store
+    → (at : ℕ) → store.floor ≤ at → at ≤ length batches
+    → (entry : Entry) → StoreStopsAt at batches store entry → IsSome entry.value
+    → IsShown at (all_entries batches) entry
 
 -- from level 1 on, a table whose range holds the key has all entries of the key in its level
 abbrev pub OneTableHasKey : Type 0

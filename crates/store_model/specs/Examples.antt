@@ -1,7 +1,8 @@
 -- A small store and its merge, worked out.
 use Rattle.std.specs.Prelude.{◌≡◌, ℕ, List, [], ◌∷◌, Some, None, codes}
+use Rattle.byte_fields.specs.{StoredKey, row_key}
 use Rattle.kv_types.specs.declared.edit.Edit.TheVariants.{Put, Delete}
-use Rattle.kv_types.specs.{BatchContent}
+use Rattle.kv_types.specs.{BatchContent, unmarked}
 use Rattle.kv_types.specs.Examples.{entry_at}
 use Rattle.store_model.specs.Keys.{KeyRange}
 use Rattle.store_model.specs.Tables.{LevelTable}
@@ -13,18 +14,30 @@ use Rattle.store_model.specs.Logs.{left_later, trimmed_to}
 -- three batches: a=1 b=1, then a=2 -b, then c=1
 abbrev pub three_batches : List BatchContent
 three_batches =
-    (Put (codes "a") (codes "1") ∷ Put (codes "b") (codes "1") ∷ [])
-    ∷ (Put (codes "a") (codes "2") ∷ Delete (codes "b") ∷ [])
-    ∷ (Put (codes "c") (codes "1") ∷ [])
+    unmarked (Put (codes "a") (codes "1") ∷ Put (codes "b") (codes "1") ∷ [])
+    ∷ unmarked (Put (codes "a") (codes "2") ∷ Delete (codes "b") ∷ [])
+    ∷ unmarked (Put (codes "c") (codes "1") ∷ [])
     ∷ []
+
+-- the key of the row at a
+abbrev pub key_a : StoredKey
+key_a = row_key (codes "a")
+
+-- the key of the row at b
+abbrev pub key_b : StoredKey
+key_b = row_key (codes "b")
+
+-- the key of the row at c
+abbrev pub key_c : StoredKey
+key_c = row_key (codes "c")
 
 -- from a to b
 abbrev pub both_keys : KeyRange
-both_keys = record { least = codes "a"; greatest = codes "b" }
+both_keys = record { least = key_a; greatest = key_b }
 
 -- the key a alone
 abbrev pub first_key : KeyRange
-first_key = record { least = codes "a"; greatest = codes "a" }
+first_key = record { least = key_a; greatest = key_a }
 
 -- in level 1, the entries of the first batch
 abbrev pub deep_table : LevelTable
@@ -32,7 +45,7 @@ deep_table = record {
   level = 1;
   file = 4;
   range = both_keys;
-  entries = entry_at (codes "a") 1 (Some (codes "1")) ∷ entry_at (codes "b") 1 (Some (codes "1"))
+  entries = entry_at key_a 1 (Some (codes "1")) ∷ entry_at key_b 1 (Some (codes "1"))
       ∷ [];
 }
 
@@ -42,7 +55,7 @@ flushed_table = record {
   level = 0;
   file = 6;
   range = both_keys;
-  entries = entry_at (codes "a") 2 (Some (codes "2")) ∷ entry_at (codes "b") 2 None ∷ [];
+  entries = entry_at key_a 2 (Some (codes "2")) ∷ entry_at key_b 2 None ∷ [];
 }
 
 -- two batches are in tables, and the third is in the newest of two logs
@@ -70,7 +83,7 @@ merged_table = record {
   level = 1;
   file = 7;
   range = first_key;
-  entries = entry_at (codes "a") 2 (Some (codes "2")) ∷ [];
+  entries = entry_at key_a 2 (Some (codes "2")) ∷ [];
 }
 
 -- what it leaves at floor 1: everything
@@ -80,10 +93,10 @@ full_table = record {
   file = 7;
   range = both_keys;
   entries =
-      entry_at (codes "a") 2 (Some (codes "2"))
-      ∷ entry_at (codes "a") 1 (Some (codes "1"))
-      ∷ entry_at (codes "b") 2 None
-      ∷ entry_at (codes "b") 1 (Some (codes "1"))
+      entry_at key_a 2 (Some (codes "2"))
+      ∷ entry_at key_a 1 (Some (codes "1"))
+      ∷ entry_at key_b 2 None
+      ∷ entry_at key_b 1 (Some (codes "1"))
       ∷ [];
 }
 
@@ -95,12 +108,12 @@ merged_store =
 -- where a read finds the keys, at several numbers
 pub record StoreExamples : Type 0 where
   pub represents : StoreRepresents three_batches two_tables
-  pub in_memory : StoreFinds 3 three_batches two_tables (codes "c") (Some (Some (codes "1")))
-  pub in_level_0 : StoreFinds 3 three_batches two_tables (codes "a") (Some (Some (codes "2")))
-  pub in_level_1 : StoreFinds 1 three_batches two_tables (codes "a") (Some (Some (codes "1")))
-  pub deletion : StoreFinds 2 three_batches two_tables (codes "b") (Some None)
-  pub before_deletion : StoreFinds 1 three_batches two_tables (codes "b") (Some (Some (codes "1")))
-  pub nowhere : StoreFinds 2 three_batches two_tables (codes "c") None
+  pub in_memory : StoreFinds 3 three_batches two_tables key_c (Some (Some (codes "1")))
+  pub in_level_0 : StoreFinds 3 three_batches two_tables key_a (Some (Some (codes "2")))
+  pub in_level_1 : StoreFinds 1 three_batches two_tables key_a (Some (Some (codes "1")))
+  pub deletion : StoreFinds 2 three_batches two_tables key_b (Some None)
+  pub before_deletion : StoreFinds 1 three_batches two_tables key_b (Some (Some (codes "1")))
+  pub nowhere : StoreFinds 2 three_batches two_tables key_c None
 
 -- what the merge leaves at two floors
 pub record MergeExamples : Type 0 where
@@ -110,7 +123,7 @@ pub record MergeExamples : Type 0 where
   pub too_early : IsMerged 1 both_merge (merged_table ∷ []) → ⊥
   pub too_late : IsMerged 2 both_merge (full_table ∷ []) → ⊥
   pub represents : StoreRepresents three_batches merged_store
-  pub nowhere : StoreFinds 3 three_batches merged_store (codes "b") None
+  pub nowhere : StoreFinds 3 three_batches merged_store key_b None
 
 -- of logs that begin after 0, 1 and 2 batches, what is trimmed at two floors
 pub record TrimExamples : Type 0 where
@@ -120,7 +133,7 @@ pub record TrimExamples : Type 0 where
 
 -- the key b alone
 abbrev pub second_key : KeyRange
-second_key = record { least = codes "b"; greatest = codes "b" }
+second_key = record { least = key_b; greatest = key_b }
 
 -- in level n, the key a alone
 abbrev pub a_table : ℕ → LevelTable
@@ -128,7 +141,7 @@ a_table n = record {
   level = n;
   file = 4;
   range = first_key;
-  entries = entry_at (codes "a") 1 (Some (codes "1")) ∷ [];
+  entries = entry_at key_a 1 (Some (codes "1")) ∷ [];
 }
 
 -- in level n, the key b alone
@@ -137,7 +150,7 @@ b_table n = record {
   level = n;
   file = 6;
   range = second_key;
-  entries = entry_at (codes "b") 1 (Some (codes "1")) ∷ [];
+  entries = entry_at key_b 1 (Some (codes "1")) ∷ [];
 }
 
 -- a merge of all these tables, which are of this level and the next, over this range

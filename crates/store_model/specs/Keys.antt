@@ -1,7 +1,7 @@
 -- The order of keys, and ranges of keys.
 use Rattle.std.specs.Prelude.{◌≡◌, ◌⊎◌}
 use Rattle.std.specs.declared.cmp.Ordering.TheVariants.{Less}
-use Rattle.kv_types.specs.{StoredKey, stored_cmp}
+use Rattle.byte_fields.specs.{StoredKey, stored_cmp}
 
 -- a key comes before another
 abbrev pub KeyPrecedes : StoredKey → StoredKey → Type 0

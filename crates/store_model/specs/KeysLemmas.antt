@@ -4,8 +4,8 @@ use Rattle.std.specs.declared.cmp.Ordering.{Ordering}
 use Rattle.std.specs.declared.cmp.Ordering.TheVariants.{Less, Equal, Greater}
 use Rattle.std.specs.Ordering.{ordering_reverse}
 use Rattle.std.specs.Cmp.{tied_itself}
-use Rattle.kv_types.specs.{StoredKey, stored_cmp}
-use Rattle.kv_types.specs.StoredKeysLemmas.{stored_total, stored_tied}
+use Rattle.byte_fields.specs.{StoredKey, stored_cmp}
+use Rattle.byte_fields.specs.StoredKeysLemmas.{stored_total, stored_tied}
 use Rattle.store_model.specs.Keys.{KeyPrecedes, KeyRange, RangeHolds, AreDisjointRanges}
 
 -- ---- a strict order

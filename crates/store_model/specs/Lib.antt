@@ -26,8 +26,8 @@ pub use Rattle.store_model.specs.Steps.{AreAlikeDeeper, AreEdited, IsDropped, Is
 pub use Rattle.store_model.specs.Steps.{IsOverwritten, IsPlanned, IsRaise, IsSpentDeletion}
 pub use Rattle.store_model.specs.Steps.{IsUnderWay, MergePlan, PlanFits, flushed_store}
 pub use Rattle.store_model.specs.Steps.{raised_store, with_tables}
-pub use Rattle.store_model.specs.LookUps.{AboveLacks, NewestHas, StoreFinds, TableLacks}
-pub use Rattle.store_model.specs.LookUps.{replayed_entries}
+pub use Rattle.store_model.specs.LookUps.{AboveLacks, NewestHas, StoreFinds, StoreStopsAt}
+pub use Rattle.store_model.specs.LookUps.{TableLacks, replayed_entries}
 pub use Rattle.store_model.specs.Outputs.{AreInKeyOrder, HaveOwnRanges, IsInKeyOrder}
 pub use Rattle.store_model.specs.Logs.{AreLogsOf, LogsRise, left_later, newest_log, trimmed_to}
 pub use Rattle.store_model.specs.Sweeps.{IsBeforeInSweep, IsNextInSweep}

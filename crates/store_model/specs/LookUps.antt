@@ -1,7 +1,8 @@
 -- How a read looks a key up, and what an opening replays.
 use Rattle.std.specs.Prelude.{◌≡◌, ◌⊎◌, ℕ, suc, ◌+◌, ◌<◌, List, Contains, slice_get}
 use Rattle.std.specs.Prelude.{Option, Some, None}
-use Rattle.kv_types.specs.{BatchContent, Entry, IsNewest, IsUnseen, StoredKey, entries_of}
+use Rattle.byte_fields.specs.{StoredKey}
+use Rattle.kv_types.specs.{BatchContent, Entry, IsNewest, IsUnseen, entries_of}
 use Rattle.store_model.specs.Tables.{LevelTable, level_entries}
 use Rattle.store_model.specs.Stores.{StoreState, memory_entries}
 
@@ -32,6 +33,13 @@ StoreFinds at batches store key (Some value) =
 StoreFinds at batches store key None =
     IsUnseen at (memory_entries batches store) key
     × ((t : LevelTable) → Contains store.tables t → TableLacks at t key)
+
+-- of the entry's key, a lookup in memory and then in each level stops at the entry
+abbrev pub StoreStopsAt : ℕ → List BatchContent → StoreState → Entry → Type 0
+StoreStopsAt at batches store entry =
+    IsNewest at (memory_entries batches store) entry
+    ⊎ ((level : ℕ) × AboveLacks at batches store entry.key level
+    × IsNewest at (level_entries store.tables level) entry)
 
 -- ---- an opening
 

@@ -1,6 +1,7 @@
 -- The store of a node without bytes, and the list of batches that it represents.
 use Rattle.std.specs.Prelude.{◌⊎◌, ℕ, ◌<◌, ◌≤◌, List, [], length, take}
-use Rattle.kv_types.specs.{BatchContent, Entry, ViewShows, all_entries, map_of}
+use Rattle.byte_fields.specs.{StoredKey}
+use Rattle.kv_types.specs.{BatchContent, Entry, IsShown, ViewShows, all_entries, stored_map_of}
 use Rattle.store_model.specs.Tables.{LevelTable, AreLeveled, tables_entries}
 
 -- the tables of a store, and so many first batches that four things concern
@@ -21,9 +22,10 @@ abbrev pub store_entries : List BatchContent → StoreState → Entry → Type 0
 store_entries batches store entry =
     tables_entries store.tables entry ⊎ memory_entries batches store entry
 
--- The store represents the list: its view at each number from the floor on is the map of so many
--- first batches. The newest log begins at or below `flushed + 1`, so that each batch that only an
--- older log has is in tables, and trimming logs loses nothing.
+-- The store represents the list: its view at each number from the floor on is what so many first
+-- batches leave, and what it shows is of the batches, with the number of its batch. The newest log
+-- begins at or below `flushed + 1`, so that each batch that only an older log has is in tables, and
+-- trimming logs loses nothing.
 pub record StoreRepresents (batches : List BatchContent) (store : StoreState) : Type 0 where
   pub tables : AreLeveled store.flushed store.tables
   pub kept_floor : store.kept ≤ store.floor
@@ -31,8 +33,10 @@ pub record StoreRepresents (batches : List BatchContent) (store : StoreState) : 
   pub current_flushed : store.current ≤ store.flushed
   pub flushed_count : store.flushed ≤ length batches
   pub floor_count : store.floor ≤ length batches
-  pub views : (at : ℕ) → store.floor ≤ at → at ≤ length batches → (key : List ℕ) →
-      ViewShows at (store_entries batches store) key (map_of (take at batches) key)
+  pub views : (at : ℕ) → store.floor ≤ at → at ≤ length batches → (key : StoredKey) →
+      ViewShows at (store_entries batches store) key (stored_map_of (take at batches) key)
+  pub real : (at : ℕ) → store.floor ≤ at → at ≤ length batches → (entry : Entry) →
+      IsShown at (store_entries batches store) entry → IsShown at (all_entries batches) entry
 
 -- a store without batches
 abbrev pub empty_store : StoreState

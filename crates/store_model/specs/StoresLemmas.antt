@@ -2,7 +2,7 @@
 use Rattle.std.proofs.Common.{◌≡◌, inl, inr, ◌≤◌, List, length, slice_get, Some}
 use Rattle.std.proofs.Common.{sym, ◌∙◌, subst, arith}
 use Rattle.std.proofs.lemmas.Option.{slice_get_within}
-use Rattle.kv_types.specs.{BatchContent, Entry, all_entries, last_edit}
+use Rattle.kv_types.specs.{BatchContent, Entry, all_entries, last_edit, stored_edits}
 use Rattle.store_model.specs.Stores.{StoreRepresents, StoreState, store_entries}
 
 -- no entry has a number greater than that of the last batch
@@ -21,9 +21,9 @@ one_entry l a b (i, batch, is, of) (j, other, it, by) same number =
     let at : i ≡ j = omega (arith, p, q, number) in
     let there : slice_get l j ≡ Some batch = subst (λ n. slice_get l n ≡ Some batch) at is in
     let one : batch ≡ other = let h : Some batch ≡ Some other = sym there ∙ it in cc in
-    let last : last_edit other b.key ≡ Some a.value =
-    subst (λ z. last_edit z b.key ≡ Some a.value) one
-    (subst (λ k. last_edit batch k ≡ Some a.value) same of.1) in
+    let last : last_edit (stored_edits other) b.key ≡ Some a.value =
+    subst (λ z. last_edit (stored_edits z) b.key ≡ Some a.value) one
+    (subst (λ k. last_edit (stored_edits batch) k ≡ Some a.value) same of.1) in
     let value : a.value ≡ b.value = let h : Some a.value ≡ Some b.value = sym last ∙ by.1 in cc in
     λ t. record { key = same t; number = number t; value = value t }
 

@@ -1,6 +1,7 @@
 -- Tables that may stand together have the entries of a key in few places.
 use Rattle.std.proofs.Common.{◌≡◌, inl, inr, ℕ, ◌<◌, List, Contains, sym, subst}
-use Rattle.kv_types.specs.{Entry, StoredKey}
+use Rattle.byte_fields.specs.{StoredKey}
+use Rattle.kv_types.specs.{Entry}
 use Rattle.store_model.specs.Keys.{RangeHolds}
 use Rattle.store_model.specs.KeysLemmas.{disjoint_keys}
 use Rattle.store_model.specs.Tables.{AreLeveled, LevelTable, level_entries}

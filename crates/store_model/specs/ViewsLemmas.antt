@@ -2,12 +2,13 @@
 use Rattle.std.proofs.Common.{◌≡◌, ◌⊎◌, inl, inr, ℕ, suc, ◌<◌, ◌≤◌, List, Option, None}
 use Rattle.std.proofs.Common.{refl, sym, ◌∙◌, ap, subst, arith}
 use Rattle.std.proofs.lemmas.Bool.{cases_lt}
+use Rattle.byte_fields.specs.{StoredKey}
 use Rattle.kv_types.specs.Examples.{entry_at}
-use Rattle.kv_types.specs.{Entry, IsSeen, ViewShows, StoredKey}
+use Rattle.kv_types.specs.{Entry, IsNewest, IsSeen, IsShown, ViewShows}
 
 module _ (S : Entry → Type 0) (at : ℕ) (key : StoredKey) where
   -- what is seen at the next number, where the key has no entry, is seen already
-  seen_already : ((value : Option (List ℕ)) → S (entry_at key (suc at) value) → ⊥)
+  pub seen_already : ((value : Option (List ℕ)) → S (entry_at key (suc at) value) → ⊥)
       → (other : Entry) → IsSeen (suc at) S other → other.key ≡ key → IsSeen at S other
   seen_already none other seen same = elim (cases_lt other.number (suc at)) [
     | inl lt ↦ (seen.0, omega (arith, lt))
@@ -107,3 +108,49 @@ module _ (S T : Entry → Type 0) (at : ℕ) (key : StoredKey) where
       ]
   shows_fewer value back lost (inr it) =
       inr (λ other seen same. it.0 other (back other seen.0, seen.1) same, it.1)
+
+  -- .. and what is the newest in T was the newest in S
+  pub newest_before : (value : Option (List ℕ)) → ((entry : Entry) → T entry → S entry)
+      → ((entry : Entry) → S entry → T entry ⊎ (IsSurpassed entry ⊎ IsNeedless entry))
+      → ViewShows at S key value → (mine : Entry) → mine.key ≡ key → IsNewest at T mine
+      → IsNewest at S mine
+  newest_before value back lost (inl (number, it)) mine of newest =
+      let was = entry_at key number value in
+      let late : mine.number ≤ number =
+      it.newest mine (back mine newest.seen.0, newest.seen.1) of in
+      elim (lost was it.seen.0) [
+        | inl there ↦
+            let early : number ≤ mine.number =
+            newest.newest was (there, it.seen.1) (sym of) in
+            record {
+              seen = (back mine newest.seen.0, newest.seen.1);
+              newest = λ other seen same.
+                  let le = it.newest other seen (same ∙ of) in
+                  omega (arith, le, early);
+            }
+        | inr gone ↦ elim gone [
+          | inl newer ↦
+              let le = it.newest newer.0 (newer.1, newer.4) newer.2 in
+              let lt = newer.3 in
+              absurd (omega (arith, le, lt))
+          | inr needless ↦
+              let lt = needless.1 mine newest.seen.0 of in
+              absurd (omega (arith, lt, late))
+        ]
+      ]
+  newest_before value back lost (inr it) mine of newest =
+      absurd (it.0 mine (back mine newest.seen.0, newest.seen.1) of)
+
+module _ (S T : Entry → Type 0) (at : ℕ) where
+  -- an entry that a set shows is shown by one with the same entries up to the number
+  pub shown_in_both : (mine : Entry) → ((entry : Entry) → entry.number ≤ at → S entry → T entry)
+      → ((entry : Entry) → entry.number ≤ at → T entry → S entry)
+      → IsShown at S mine → IsShown at T mine
+  shown_in_both mine to back it = record {
+    newest = record {
+      seen = (to mine it.newest.seen.1 it.newest.seen.0, it.newest.seen.1);
+      newest = λ other seen same.
+          it.newest.newest other (back other seen.1 seen.0, seen.1) same;
+    };
+    put = it.put;
+  }

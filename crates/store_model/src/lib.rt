@@ -6,7 +6,8 @@ ghost use Rattle.store_model.specs.Claims.{AppendsKeep, EmptyRepresents, Flushes
 ghost use Rattle.store_model.specs.Claims.{FlushesAddLogs, FlushesLeaveMerges, RaisesKeep};
 ghost use Rattle.store_model.specs.Claims.{RaisesLeaveMerges, TrimsAreRaises, TrimsLeaveLogs};
 ghost use Rattle.store_model.specs.Claims.{AlwaysRepresents, MergesKeep, MergesKeepViews, PlansFit};
-ghost use Rattle.store_model.specs.Claims.{LookUpsAreMaps, OneTableHasKey, StoreEntriesDiffer};
+ghost use Rattle.store_model.specs.Claims.{LookUpsAreMaps, LookUpsAreShown, OneTableHasKey};
+ghost use Rattle.store_model.specs.Claims.{StoreEntriesDiffer};
 ghost use Rattle.store_model.specs.Claims.{NextDecides, ReplaysAgree, StoreViewsAreMaps};
 ghost use Rattle.store_model.specs.Claims.{WrittenHaveRanges};
 ghost use Rattle.store_model.specs.Examples.{MergeExamples, PlanExamples, StoreExamples};
@@ -20,11 +21,13 @@ pub fn store_views_are_maps()
     ensures differ { StoreEntriesDiffer }
 {}
 
-/// What a lookup finds first, in memory and then level by level, is what the map has. From level 1
-/// on, a table whose range holds a key has all entries of the key in its level.
+/// What a lookup finds first, in memory and then level by level, is what the map has; and an entry
+/// that it finds, other than a deletion, is one of the batches, with the number of its batch. From
+/// level 1 on, a table whose range holds a key has all entries of the key in its level.
 // law: of `StoreFinds`
 pub fn look_ups_are_maps()
     ensures maps { LookUpsAreMaps }
+    ensures shown { LookUpsAreShown }
     ensures one { OneTableHasKey }
 {}
 

@@ -4,9 +4,10 @@ use Rattle.std.proofs.Common.{ℕ, inl, inr, refl, sym, ap, subst, ◌∙◌, ar
 use Rattle.std.specs.Option.{option_map}
 use Rattle.std.specs.Prelude.{IsSomeAnd, ◌↔◌}
 use Rattle.disk.specs.{Slot, State, seen, IsDurable}
+use Rattle.byte_fields.specs.{StoredKey}
 use Rattle.kv_types.specs.declared.bounds.TheConstants.{MAX_NUMBER}
 use Rattle.kv_types.specs.OrderLemmas.{Among, Rises, among_from_Contains, rises_from_AllPairs}
-use Rattle.kv_types.specs.{Entry, StoredKey}
+use Rattle.kv_types.specs.{Entry}
 use Rattle.merge_iter.specs.declared.Direction.TheVariants.{Forward}
 use Rattle.merge_iter.specs.{EntryPrecedes}
 use Rattle.memtable.specs.declared.Memtable.{Memtable}

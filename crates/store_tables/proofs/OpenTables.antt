@@ -6,7 +6,8 @@ use Rattle.disk.specs.{IsEnvironmental}
 use Rattle.disk.specs.declared.Disk.{Ghosts}
 use Rattle.disk.specs.{Contents, contents, IsSame, IsStill, KeepsDisk, Slot, State, seen}
 use Rattle.disk.specs.StillLemmas.{still, still_more}
-use Rattle.kv_types.specs.{Entry, StoredKey}
+use Rattle.byte_fields.specs.{StoredKey}
+use Rattle.kv_types.specs.{Entry}
 use Rattle.table_format.specs.declared.FileError.TheVariants as reading
 use Rattle.table_format.specs.{TableRepresents}
 use Rattle.table_format.specs.declared.FileError.{FileError}
@@ -236,7 +237,7 @@ files_ghosts g = record {
   failures = λ files. g.failures (inner_disk files);
   is_reliable = λ files. g.is_reliable (inner_disk files);
   past = λ files. g.past (inner_disk files);
-  marks = λ files. g.marks (inner_disk files);
+  incidents = λ files. g.incidents (inner_disk files);
   allocates = g.allocates;
 }
 

@@ -14,9 +14,10 @@ use Rattle.std.proofs.lemmas.Option.{slice_get_within}
 use Rattle.std.proofs.lemmas.Option.{slice_get_within}
 use Rattle.std.specs.declared.cmp.Ordering.{Ordering}
 use Rattle.std.specs.declared.cmp.Ordering.TheVariants.{Less, Equal, Greater}
-use Rattle.kv_types.specs.{Entry, Span, StoredKey, stored_cmp}
-use Rattle.kv_types.specs.ByteOrderLemmas.{Less-below, below-Less, from_below}
-use Rattle.kv_types.specs.Order.{IsBelow}
+use Rattle.byte_fields.specs.{StoredKey, stored_cmp}
+use Rattle.byte_fields.specs.ByteOrderLemmas.{Less-below, below-Less, from_below}
+use Rattle.byte_fields.specs.Order.{IsBelow}
+use Rattle.kv_types.specs.{Entry, Span}
 use Rattle.kv_types.specs.Pages.{IsWithin}
 use Rattle.merge_iter.specs.{AreApart, EachChild, IsAlike, UnionHolds, equal_parts}
 use Rattle.merge_iter.specs.declared.Cursor.{Ghosts}

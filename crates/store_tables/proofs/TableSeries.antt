@@ -10,7 +10,8 @@ use Rattle.std.specs.Cmp.{nat_cmp_total, tied_itself}
 use Rattle.std.specs.Ordering.{nat_cmp, ordering_then}
 use Rattle.std.specs.declared.cmp.Ordering.{Ordering}
 use Rattle.std.specs.declared.cmp.Ordering.TheVariants.{Less, Equal, Greater}
-use Rattle.kv_types.specs.{Entry, StoredKey, stored_cmp}
+use Rattle.byte_fields.specs.{StoredKey, stored_cmp}
+use Rattle.kv_types.specs.{Entry}
 use Rattle.merge_iter.specs.{AreSound, EntryPrecedes, IsAlike, chain, spot, union_of}
 use Rattle.merge_iter.specs.EntryOrder.{cases, same_right}
 use Rattle.merge_iter.specs.declared.Cursor.{Ghosts}

@@ -39,6 +39,7 @@ error_of_manifest manifest.Damaged = engine.Damaged
 error_of_manifest manifest.NotCreated = engine.NotCreated
 error_of_manifest manifest.Memory = engine.Memory
 error_of_manifest manifest.Failed = engine.Failed
+error_of_manifest manifest.OldFormat = engine.OldFormat
 
 -- what the disk did to an edit of a manifest that works
 abbrev pub error_of_edit : ManifestError → EngineError
@@ -47,6 +48,7 @@ error_of_edit manifest.Damaged = engine.Damaged
 error_of_edit manifest.NotCreated = engine.Damaged
 error_of_edit manifest.Memory = engine.Memory
 error_of_edit manifest.Failed = engine.Damaged
+error_of_edit manifest.OldFormat = engine.Damaged
 
 -- the error of an engine for that of a cursor
 abbrev pub error_of_cursor : CursorError → EngineError
@@ -67,6 +69,7 @@ IsEnd engine.NotCommitted = ⊥
 IsEnd engine.NoSuchSnapshot = ⊥
 IsEnd engine.TooManySnapshots = ⊥
 IsEnd engine.Exhausted = ⊥
+IsEnd engine.OldFormat = ⊥
 
 -- the call ended the engine
 abbrev pub EndsEngine : {T : Type 0} → Result T EngineError → Type 0

@@ -4,7 +4,8 @@ use Rattle.std.specs.Prelude.{Contains, Bool, Option, Some, None, IsSomeAnd, ◌
 use Rattle.std.specs.List.{AllZip, count_by}
 use Rattle.std.specs.Option.{option_map, option_flatten}
 use Rattle.disk.specs.{Contents, Slot, State}
-use Rattle.kv_types.specs.{BatchContent, Entry, IsNewest, IsUnseen, StoredKey, map_of}
+use Rattle.byte_fields.specs.{StoredKey}
+use Rattle.kv_types.specs.{BatchContent, Entry, IsNewest, IsUnseen, stored_map_of}
 use Rattle.table_builder.specs.{first_entry}
 use Rattle.table_format.specs.{TableRepresents}
 use Rattle.table_format.specs.declared.IndexLine.{IndexLine}
@@ -14,8 +15,7 @@ use Rattle.sorted_table.specs.{AreAsMeant, FileRepresents, HasTail, IsOpenOn, Ta
 use Rattle.sorted_table.specs.{found_entry, greatest_key, index_lines, last_line_key, table_file}
 use Rattle.sorted_table.specs.declared.Table.{Table}
 use Rattle.sorted_table.specs.declared.FoundVersion.{FoundVersion}
-use Rattle.store_model.specs.{KeyRange, LevelTable, NewestHas, StoreFinds, StoreRepresents}
-use Rattle.store_model.specs.{StoreState}
+use Rattle.store_model.specs.{KeyRange, LevelTable, StoreFinds, StoreRepresents, StoreState}
 use Rattle.store_model.specs.{TableLacks, level_entries, memory_entries}
 use Rattle.manifest.specs.declared.TableLine.{TableLine}
 use Rattle.manifest.specs.Versions.{AreInOrder, table_is_before}
@@ -166,12 +166,6 @@ abbrev pub EntriesFind : ℕ → (Entry → Type 0) → StoredKey → Option Fou
 EntriesFind at entries key None = IsUnseen at entries key
 EntriesFind at entries key (Some found) = IsNewest at entries (found_entry key found)
 
--- of these entries the newest of the key that is seen at the number has this value or is a
--- deletion, or there is none
-abbrev pub EntriesHave : ℕ → (Entry → Type 0) → StoredKey → Option (Option (List ℕ)) → Type 0
-EntriesHave at entries key None = IsUnseen at entries key
-EntriesHave at entries key (Some value) = NewestHas at entries key value
-
 -- no table of a lesser level has an entry of the key that is seen at the number
 abbrev pub LesserLack : ℕ → List LevelTable → StoredKey → ℕ → Type 0
 LesserLack at tables key level =
@@ -195,11 +189,11 @@ TablesFindForStores =
     (found : Option FoundVersion) → IsUnseen at (memory_entries batches store) key
     → TablesFind at store.tables key found → StoreFinds at batches store key (found_value found)
 
--- and so it is what the map has
+-- and so it is what the batches leave there
 abbrev pub TableLookUpsAreMaps : Type 0
 TableLookUpsAreMaps =
     (batches : List BatchContent) (store : StoreState) → StoreRepresents batches store
     → (at : ℕ) → store.floor ≤ at → at ≤ length batches → (key : List ℕ)
     (found : Option FoundVersion) → IsUnseen at (memory_entries batches store) key
     → TablesFind at store.tables key found
-    → option_flatten (found_value found) ≡ map_of (take at batches) key
+    → option_flatten (found_value found) ≡ stored_map_of (take at batches) key

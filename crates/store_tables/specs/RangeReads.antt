@@ -3,7 +3,8 @@ use Rattle.std.specs.Prelude.{◌≡◌, ◌≢◌, ◌↔◌, ℕ, List, All, B
 use Rattle.std.specs.List.{AllPairs, AllZip, filter}
 use Rattle.std.specs.Option.{option_map_or}
 use Rattle.std.specs.Ordering.{is_lt}
-use Rattle.kv_types.specs.{Entry, Span, stored_cmp}
+use Rattle.byte_fields.specs.{stored_cmp}
+use Rattle.kv_types.specs.{Entry, Span}
 use Rattle.kv_types.specs.Pages.{IsWithin}
 use Rattle.merge_iter.specs.{AreDisjoint, AreSound, IsAlike, union_of}
 use Rattle.merge_iter.specs.declared.Cursor.{Ghosts}

@@ -5,7 +5,7 @@ use Rattle.bloom.specs.{Covers}
 use Rattle.disk.specs.declared.Disk.{Ghosts}
 use Rattle.disk.specs.{Contents, IsEnvironmental, IsSame, IsStill, KeepsDisk, Slot, State}
 use Rattle.disk.specs.{contents, seen}
-use Rattle.kv_types.specs.{StoredKey}
+use Rattle.byte_fields.specs.{StoredKey}
 use Rattle.merge_iter.specs.{spot}
 use Rattle.table_format.specs.declared.IndexLine.{IndexLine}
 use Rattle.sorted_table.specs.{HasTail, IsBlockAtLine}

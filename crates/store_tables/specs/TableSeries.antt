@@ -1,7 +1,8 @@
 -- Cursors over tables in order, each over a series of tables of which the keys of each come before
 -- those of the next.
 use Rattle.std.specs.Prelude.{◌≡◌, ◌++◌, ℕ, List, [], ◌∷◌, Contains, length}
-use Rattle.kv_types.specs.{Entry, StoredKey}
+use Rattle.byte_fields.specs.{StoredKey}
+use Rattle.kv_types.specs.{Entry}
 use Rattle.merge_iter.specs.{AreSound, EntryPrecedes, IsAlike, spot, union_of}
 use Rattle.merge_iter.specs.declared.Cursor.{Ghosts}
 use Rattle.merge_iter.specs.declared.Direction.TheVariants.{Forward}

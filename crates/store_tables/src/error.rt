@@ -46,6 +46,9 @@ pub enum EngineError {
     /// No number is left for a batch.
     #[error("exhausted")]
     Exhausted,
+    /// The files are those of a store of the old format.
+    #[error("old format")]
+    OldFormat,
 }
 
 impl From<DiskError> for EngineError {
@@ -82,6 +85,7 @@ impl From<ManifestError> for EngineError {
             ManifestError::NotCreated => EngineError::NotCreated,
             ManifestError::Memory => EngineError::Memory,
             ManifestError::Failed => EngineError::Failed,
+            ManifestError::OldFormat => EngineError::OldFormat,
         }
     }
 }
@@ -94,9 +98,10 @@ pub fn refusal_of_edit(e: ManifestError) -> EngineError
     match e {
         ManifestError::Disk => EngineError::Disk,
         ManifestError::Memory => EngineError::Memory,
-        ManifestError::Damaged | ManifestError::NotCreated | ManifestError::Failed => {
-            EngineError::Damaged
-        }
+        ManifestError::Damaged
+        | ManifestError::NotCreated
+        | ManifestError::Failed
+        | ManifestError::OldFormat => EngineError::Damaged,
     }
 }
 

@@ -5,7 +5,7 @@ ghost use Rattle.std.specs.List.{prefix_len};
 ghost use Rattle.std.specs.Prelude.{Contains, [], ◌∷◌, ◌++◌};
 ghost use Rattle.bloom.specs.{hashes_of};
 ghost use Rattle.disk.specs.{IsEnvironmental, Slot, State};
-ghost use Rattle.kv_types.specs.{Entry};
+ghost use Rattle.kv_types.specs.{Entry, stored_span};
 ghost use Rattle.sorted_table.specs.{TableServes, greatest_key, index_lines, last_line_key};
 ghost use Rattle.store_model.specs.{AreLeveled, FitsRange, KeyRange, LevelTable, RangeHolds};
 ghost use Rattle.store_model.specs.{level_entries};
@@ -28,9 +28,10 @@ ghost use Rattle.store_tables.specs.TableReads.{by_one_line};
 use crate::EngineError;
 use crate::series::TableSeries;
 use bloom::KeyHashes;
+use byte_fields::StoredKey;
 use compaction::Plan;
 use disk::Disk;
-use kv_types::{Number, Range, StoredKey};
+use kv_types::{Number, Range};
 use merge_iter::Cursor;
 use sorted_table::{FoundVersion, Table, TableCursor};
 use std::alloc::{AllocError, Global};
@@ -102,15 +103,12 @@ impl OpenTable {
 
     // Whether the keys of the table meet the range.
     fn meets(&self, range: &Range) -> bool
-        ensures { result ≡ meets_span (line_range self.now.line) range.now }
+        ensures { result ≡ meets_span (line_range self.now.line) (stored_span range.now) }
     {
-        if &self.line.greatest < range.from() {
+        if &self.line.greatest < range.from().stored() {
             return false;
         }
-        match range.to() {
-            Some(to) => &self.line.least < to,
-            None => true,
-        }
+        self.line.least.lent().cmp(range.end_of_rows()).is_lt()
     }
 
     // A cursor over the entries of the table.
@@ -282,7 +280,7 @@ impl LevelTables {
         if self.tables.is_empty() {
             return Ok(None); // no filter is asked: the key needs no digest
         }
-        let hashes = KeyHashes::of(key.as_bytes());
+        let hashes = KeyHashes::of_stored(key.lent());
         let mut level = 0;
         let mut best = None;
         for open in &self.tables {
@@ -298,7 +296,8 @@ impl LevelTables {
 
     /// Cursors over the tables whose keys meet the range, in order of the tables, one for as many
     /// of them as come one after another in order of key. No file is read. Together they have each
-    /// entry of the tables with a key in the range, whatever the files of the other tables are.
+    /// entry of the tables with the key of a row in the range, whatever the files of the other
+    /// tables are.
     pub fn cursors<'a, D: Disk + Drop>(
         &self,
         alloc: Global,
@@ -306,9 +305,9 @@ impl LevelTables {
     ) -> Result<Vec<StoreCursor<'a, D>>, AllocError>
         ensures { IfOk result (λ cursors. (meant : State) (files : _)
             (tables : List LevelTable) → ⟦<CachedDisk<D> as Disk>⟧.is_honest files →
-            WereServedIn range.now (⟦<CachedDisk<D> as Disk>⟧.state files) meant self.now tables →
-            AreRangeCursors ⟦<StoreCursor<'a, D> as Cursor>⟧ meant files range.now tables
-            cursors.items) }
+            WereServedIn (stored_span range.now) (⟦<CachedDisk<D> as Disk>⟧.state files) meant
+            self.now tables → AreRangeCursors ⟦<StoreCursor<'a, D> as Cursor>⟧ meant files
+            (stored_span range.now) tables cursors.items) }
     {
         let mut series = TableSeries::new(alloc);
         for open in &self.tables {

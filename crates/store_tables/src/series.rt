@@ -7,8 +7,8 @@ ghost use Rattle.store_model.specs.{LevelTable};
 ghost use Rattle.store_tables.specs.RangeReads.{HasTable};
 ghost use Rattle.store_tables.specs.TableSeries.{AllPrecede, AreOver, AreSeries, EndsSeries};
 
+use byte_fields::StoredKey;
 use disk::Disk;
-use kv_types::StoredKey;
 use merge_iter::Cursor;
 use sorted_table::TableCursor;
 use std::alloc::{AllocError, Global};

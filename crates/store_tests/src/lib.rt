@@ -8,6 +8,8 @@ mod items;
 #[cfg(test)]
 mod levels;
 #[cfg(test)]
+mod marked_stores;
+#[cfg(test)]
 mod numbers;
 #[cfg(test)]
 mod plain_store;

@@ -2,7 +2,7 @@
 // compared with, and the calls of an engine that tests make.
 
 use crate::cases::is_so;
-use crate::items::{config_of, filled, is_same, key_of, node, number, put};
+use crate::items::{Marking, config_of, filled, is_same, key_of, node, number, put, try_batch};
 use disk::Disk;
 use engine::{Engine, Tended};
 use kv_types::{Batch, Edit, Key, Limits, Page, Range, Row, Value};
@@ -46,13 +46,23 @@ fn edit_at(rt: &impl Abort, alloc: Global, change: Change) -> Edit {
     }
 }
 
-/// The batch of these changes.
-pub fn batch_at(rt: &impl Abort, alloc: Global, changes: &[Change]) -> Batch {
+/// The batch of these changes, with this mark or without one.
+pub fn marked_at(
+    rt: &impl Abort,
+    alloc: Global,
+    mark: Option<Marking>,
+    changes: &[Change],
+) -> Batch {
     let mut edits = Vec::new(alloc);
     for change in changes {
         put(rt, &mut edits, edit_at(rt, alloc, *change));
     }
-    Batch::new(edits).expect(rt, "a batch")
+    try_batch(mark, edits).expect(rt, "a batch")
+}
+
+/// The batch of these changes.
+pub fn batch_at(rt: &impl Abort, alloc: Global, changes: &[Change]) -> Batch {
+    marked_at(rt, alloc, None, changes)
 }
 
 /// A range by the places of its bounds, its direction, and the greatest number of rows of a page.
@@ -174,7 +184,7 @@ fn page_len(rows: &[(u16, u16)], limit: u32) -> usize {
 fn is_row(rt: &impl Abort, alloc: Global, row: &Row, want: (u16, u16)) -> bool {
     let key = key_at(rt, alloc, want.0);
     let value = value_at(rt, alloc, want.0, want.1);
-    is_same(row.key().as_bytes(), key.as_bytes()) && is_same(row.value(), value.as_bytes())
+    is_same(row.key(), key.as_bytes()) && is_same(row.value(), value.as_bytes())
 }
 
 fn is_page(rt: &impl Abort, alloc: Global, page: &Page, want: &[(u16, u16)], more: bool) -> bool {
@@ -205,8 +215,8 @@ pub fn created<D: Disk + Drop>(rt: &impl Abort, alloc: Global, disk: D, log: u64
     created.ok().expect(rt, "an engine")
 }
 
-// All batches of the store are committed.
-fn commit<D: Disk + Drop>(engine: &mut Engine<D>) {
+/// Tells the store that all its batches are committed.
+pub fn commit<D: Disk + Drop>(engine: &mut Engine<D>) {
     let count = engine.count();
     engine.set_committed(count);
 }
@@ -229,6 +239,19 @@ pub fn append<D: Disk + Drop>(rt: &impl Abort, engine: &mut Engine<D>, batch: &B
 /// Whether a tend of the store works.
 pub fn tends<D: Disk + Drop>(rt: &impl Abort, alloc: Global, engine: &mut Engine<D>) -> bool {
     engine.tend(alloc).expect(rt, "a tend") == Tended::Worked
+}
+
+/// The request of the last mark of a client, and the number of its batch; zeros for none.
+pub fn mark_of<D: Disk + Drop>(
+    rt: &impl Abort,
+    alloc: Global,
+    engine: &mut Engine<D>,
+    client: u64,
+) -> (u64, u64) {
+    match engine.mark(alloc, client).expect(rt, "a read") {
+        Some(held) => (held.request, held.number.get()),
+        None => (0, 0),
+    }
 }
 
 // Whether this is the value of a place, or none.

@@ -1,7 +1,8 @@
-// Random pages of a store that grows, flushes and merges, beside a plain one.
+// Random pages of a store that grows, flushes and merges, beside a plain one, and its last marks.
 use crate::cases::{holds_at, is_so};
+use crate::items::Marking;
 use crate::numbers::Numbers;
-use crate::plain_store::{PlainStore, agreeing_pages, append, batch_at, created, tends};
+use crate::plain_store::{PlainStore, agreeing_pages, append, created, mark_of, marked_at, tends};
 use disk::MemDisk;
 use engine::Engine;
 use std::alloc::Global;
@@ -15,6 +16,41 @@ const BETWEEN: u64 = 10;
 // So long a log grows.
 const LOG: u64 = 65_536;
 
+// One of so many batches bears a mark.
+const MARKED: u64 = 100;
+
+// So many clients mark batches in turn.
+const CLIENTS: u64 = 50;
+
+// The mark of the batch of a number, which is its request.
+fn mark_at(number: u64) -> Option<Marking> {
+    if number % MARKED == 0 {
+        Some(((number / MARKED % CLIENTS).saturating_add(1), number))
+    } else {
+        None
+    }
+}
+
+// Whether the last mark of a client is the one that so many others stand behind, fewer than there
+// are clients, up to a batch.
+fn has_mark(
+    rt: &impl Abort,
+    alloc: Global,
+    engine: &mut Engine<MemDisk>,
+    (behind, count): (u64, u64),
+) -> bool {
+    let number = (count / MARKED)
+        .saturating_sub(behind)
+        .saturating_mul(MARKED);
+    match mark_at(number) {
+        Some((client, _)) if number > 0 => {
+            let found = mark_of(rt, alloc, engine, client);
+            found.0 == number && found.1 == number
+        }
+        _ => true,
+    }
+}
+
 // Appends the batch of this number to both stores, and says whether a tend then works.
 fn flushes(
     rt: &impl Abort,
@@ -24,7 +60,7 @@ fn flushes(
     (numbers, count): (&mut Numbers, u64),
 ) -> bool {
     let changes = numbers.changes(rt, alloc);
-    append(rt, engine, &batch_at(rt, alloc, &changes));
+    append(rt, engine, &marked_at(rt, alloc, mark_at(count), &changes));
     plain.add(rt, count, &changes);
     tends(rt, alloc, engine)
 }
@@ -55,6 +91,8 @@ fn grow(rt: &impl Abort, alloc: Global, engine: &mut Engine<MemDisk>) {
         if count % BETWEEN == 0 {
             let pages = pages(rt, alloc, engine, &plain, (&mut numbers, count));
             read = read.saturating_add(pages);
+            let mark = (count / BETWEEN % CLIENTS, count);
+            holds_at(rt, count as usize, has_mark(rt, alloc, engine, mark));
         }
     }
     is_so(rt, flushed > 40, "flushes");

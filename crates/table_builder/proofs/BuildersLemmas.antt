@@ -37,7 +37,7 @@ fine it entries h = division_fine entries (recursion_from_All IsTableEntry entri
 pub record Bounds (it : Builder) (entries : List Entry) : Type 0 where
   pub written : it.written ≤ MAX_DATA
   pub content : length (block_content (division entries).opened) < BLOCK_SIZE
-  pub entries_few : 11 * length entries ≤ MAX_DATA + 4096
+  pub entries_few : 9 * length entries ≤ MAX_DATA + 4096
   pub blocks_few : 4104 * length (division entries).closed ≤ MAX_DATA
   pub opened_few : length (division entries).opened < 4096
 

@@ -5,15 +5,15 @@ use Rattle.std.proofs.Common.{refl, sym, ap, ap₂, subst, ◌∙◌, arith, app
 use Rattle.std.proofs.Common.{Result, Ok, Err}
 use Rattle.std.specs.Prelude.{OnOk}
 use Rattle.std.specs.List.{flat_map, AllByRecursion}
-use Rattle.std.specs.Int.{w16, to_be_bytes}
 use Rattle.std.proofs.lemmas.List.{append-nil}
 use Rattle.std.proofs.lemmas.List.Concat.{flat_map-cons}
 use Rattle.std.proofs.lemmas.List.Elements.{All-from_recursion, recursion_from_All}
 use Rattle.bloom.specs.{IsFilter}
+use Rattle.byte_fields.specs.{IsStoredKey, key_bytes}
+use Rattle.byte_fields.specs.SpelledKeysLemmas.{key_bytes-short}
 use Rattle.kv_types.specs.{Entry}
 use Rattle.table_format.specs.declared.Footer.{Footer}
 use Rattle.table_format.specs.declared.IndexLine.{IndexLine}
-use Rattle.table_format.specs.Blocks.{key_bytes}
 use Rattle.table_format.specs.Tables.{begins_with}
 use Rattle.table_format.specs.{Block, IsTableEntry, TableRepresents, be32, be64, block_bytes}
 use Rattle.table_format.specs.{block_content, block_entries, block_line, block_lines, data_bytes}
@@ -78,20 +78,20 @@ length-filter_part filter =
       length-append (be32 (length filter)) filter,
     )
 
-line_short : (line : IndexLine) → length line.key ≤ 1024 → length (line_bytes line) ≤ 1046
-line_short line short =
+line_short : (line : IndexLine) → IsStoredKey line.key → length (line_bytes line) ≤ 1047
+line_short line is =
+    let short = key_bytes-short line.key is in
     omega (
       arith,
       short,
       length-append (be64 line.place) (be32 line.len ++ (key_bytes line.key ++ be64 line.number)),
       length-append (be32 line.len) (key_bytes line.key ++ be64 line.number),
       length-append (key_bytes line.key) (be64 line.number),
-      length-append (to_be_bytes w16 (length line.key)) line.key,
     )
 
 lines_short : (place : ℕ) (blocks : List Block)
     → AllByRecursion IsTableEntry (entries_of_blocks blocks)
-    → length (flat_map line_bytes (block_lines place blocks)) ≤ 1046 * length blocks
+    → length (flat_map line_bytes (block_lines place blocks)) ≤ 1047 * length blocks
 lines_short place [] each = omega arith
 lines_short place (block ∷ blocks) each =
     let parts = split_each IsTableEntry (block_entries block) (entries_of_blocks blocks)

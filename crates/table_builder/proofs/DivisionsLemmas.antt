@@ -8,11 +8,13 @@ use Rattle.std.proofs.lemmas.Bool.{le-leb, leb-true, leb-false}
 use Rattle.std.proofs.lemmas.Grind.{flat_map-append}
 use Rattle.std.proofs.lemmas.List.{append-nil}
 use Rattle.std.proofs.lemmas.List.Concat.{flat_map-cons}
+use Rattle.byte_fields.specs.{key_bytes}
+use Rattle.byte_fields.specs.SpelledKeysLemmas.{key_bytes-short}
 use Rattle.kv_types.specs.{Entry}
 use Rattle.kv_types.specs.declared.bounds.TheConstants.{MAX_VALUE}
 use Rattle.table_format.specs.declared.IndexLine.{IndexLine}
 use Rattle.table_format.specs.declared.sizes.TheConstants.{BLOCK_SIZE}
-use Rattle.table_format.specs.Blocks.{change_bytes, key_bytes}
+use Rattle.table_format.specs.Blocks.{change_bytes}
 use Rattle.table_format.specs.{Block, IsTableEntry, be64, block_bytes, block_content, block_entries}
 use Rattle.table_format.specs.{block_line, block_lines, block_part, data_bytes, entries_of_blocks}
 use Rattle.table_format.specs.{entry_bytes}
@@ -145,17 +147,16 @@ change_short (Some value) short =
     omega (arith, short, length-append (to_be_bytes w16 (length value)) value)
 change_short None short = omega arith
 
-pub entry_short : (entry : Entry) → IsTableEntry entry → length (entry_bytes entry) ≤ 17421
+pub entry_short : (entry : Entry) → IsTableEntry entry → length (entry_bytes entry) ≤ 17422
 entry_short entry is =
     let change = change_short entry.value is.value in
-    let key = is.key in
+    let key = key_bytes-short entry.key is.key in
     omega (
       arith,
       change,
       key,
       length-append (key_bytes entry.key) (be64 entry.number ++ change_bytes entry.value),
       length-append (be64 entry.number) (change_bytes entry.value),
-      length-append (to_be_bytes w16 (length entry.key)) entry.key,
     )
 
 pub length-entries_push : (entries : List Entry) (entry : Entry)
@@ -167,7 +168,7 @@ length-entries_push entries entry =
 
 -- entries in some bytes are few
 pub entries_long : (entries : List Entry)
-    → 11 * length entries ≤ length (flat_map entry_bytes entries)
+    → 9 * length entries ≤ length (flat_map entry_bytes entries)
 entries_long [] = omega arith
 entries_long (entry ∷ entries) =
     omega (
@@ -179,7 +180,7 @@ entries_long (entry ∷ entries) =
     )
 
 pub data_long : (blocks : List Block)
-    → 11 * length (entries_of_blocks blocks) ≤ length (data_bytes blocks)
+    → 9 * length (entries_of_blocks blocks) ≤ length (data_bytes blocks)
 data_long [] = omega arith
 data_long (block ∷ blocks) =
     omega (

@@ -1,9 +1,9 @@
 //! What a builder keeps of the keys of its entries.
-ghost use Rattle.std.specs.Prelude.{◌≡◌, ◌≤◌, length};
-ghost use Rattle.kv_types.specs.declared.bounds.TheConstants.{MAX_KEY};
+ghost use Rattle.std.specs.Prelude.{◌≡◌, length};
+ghost use Rattle.byte_fields.specs.{IsStoredKey};
 
 use bloom::KeyHashes;
-use kv_types::{KeyBuffer, LentKey};
+use byte_fields::{KeyBuffer, LentKey};
 use merge_iter::order;
 use std::alloc::{AllocError, Global};
 
@@ -16,15 +16,16 @@ pub struct AddedKeys {
     pub least: KeyBuffer,
     pub last: KeyBuffer,
     pub number: u64,
-    ghost least_short: { length least ≤ MAX_KEY },
-    ghost last_short: { length last ≤ MAX_KEY },
+    ghost least_kept: { IsStoredKey least },
+    ghost last_kept: { IsStoredKey last },
 }
 
 impl AddedKeys {
     ghost use Rattle.std.specs.Prelude.{◌<◌, ◌^◌, ◌+◌, ◌++◌, ◌∷◌, [], ◌↔◌, List};
     ghost use Rattle.std.specs.Prelude.{OnOk, IsTrue};
     ghost use Rattle.bloom.specs.{hashes_of};
-    ghost use Rattle.kv_types.specs.{Entry, lent_key};
+    ghost use Rattle.byte_fields.specs.{lent_key};
+    ghost use Rattle.kv_types.specs.{Entry};
     ghost use Rattle.table_format.specs.{CanFollow};
     ghost use Rattle.table_builder.specs.Keys.{KnowsKeys};
 
@@ -42,20 +43,20 @@ impl AddedKeys {
 
     // Adds a key that no entry had.
     fn add_key(&mut self, key: LentKey) -> Result<(), AllocError>
-        requires { length (lent_key key) ≤ MAX_KEY }
+        requires { IsStoredKey (lent_key key) }
         ensures hashes { OnOk result
             (self.new.hashes.items ≡ self.old.hashes.items ++ hashes_of (lent_key key.entry) ∷ []) }
         ensures last { OnOk result (self.new.last ≡ lent_key key.entry) }
         ensures same { (self.new.count ≡ self.old.count)
             × (self.new.least ≡ self.old.least) }
     {
-        self.hashes.push(KeyHashes::of(key.as_bytes()))?;
+        self.hashes.push(KeyHashes::of_stored(key))?;
         self.last.set(key)
     }
 
     /// Adds an entry with this key and number behind the others.
     pub fn add(&mut self, key: LentKey, number: u64) -> Result<(), AllocError>
-        requires { length (lent_key key) ≤ MAX_KEY }
+        requires { IsStoredKey (lent_key key) }
         ensures { (entries : List Entry) (entry : Entry) → KnowsKeys self.old entries →
             entry.key ≡ lent_key key.entry → entry.number ≡ number → length entries + 1 < 2 ^ 64 →
             OnOk result (KnowsKeys self.new (entries ++ entry ∷ [])) }

@@ -2,14 +2,14 @@
 use Rattle.std.proofs.Common.{◌≡◌, ℕ, ◌<◌, List, [], length, Some, None, refl, sym, ap, ◌∙◌, arith}
 use Rattle.std.specs.Option.{option_map}
 use Rattle.std.proofs.lemmas.List.{drop_all, length-map}
+use Rattle.byte_fields.specs.{key_at}
 use Rattle.kv_types.specs.{Entry}
-use Rattle.byte_fields.specs.{text_at}
-use Rattle.table_format.specs.Reading.{key_at, table_entry_at}
+use Rattle.table_format.specs.Reading.{table_entry_at}
 use Rattle.table_files.specs.EntryReads.{ReadsEntries, entry_read}
 
 -- of no bytes nothing is read
 nothing_read : table_entry_at [] ≡ None
-unfolding table_entry_at key_at text_at
+unfolding table_entry_at key_at
 nothing_read = refl
 
 -- behind the end nothing is read

@@ -29,18 +29,18 @@ pub record KeepsFiles {D : Type 0} (g : Ghosts D) (old new : D) : Type 0 where
   -- a crash at any moment leaves only what it might have left before
   pub still : IsStill g old new
   -- no fault was armed, and no crash came: a fault that is armed stays armed
-  pub fault : g.marks new ≡ g.marks old
+  pub fault : g.incidents new ≡ g.incidents old
   -- the count of failures never falls
   pub count : g.failures old ≤ g.failures new
   -- a reliable disk whose fault has not struck has not failed
-  pub unfailing : g.is_honest old → g.is_reliable old → (HasStruck g.marks g.past new → ⊥) →
+  pub unfailing : g.is_honest old → g.is_reliable old → (HasStruck g.incidents g.past new → ⊥) →
       (g.failures new ≡ g.failures old) × g.is_reliable new
   -- while no call failed, a reliable disk stays reliable
   pub reliable : g.is_reliable old → ShowsNoFailure (g.failures old) (g.failures new) →
       g.is_reliable new
   -- and a fault has not struck that had not
-  pub spared : (HasStruck g.marks g.past old → ⊥) →
-      ShowsNoFailure (g.failures old) (g.failures new) → HasStruck g.marks g.past new → ⊥
+  pub spared : (HasStruck g.incidents g.past old → ⊥) →
+      ShowsNoFailure (g.failures old) (g.failures new) → HasStruck g.incidents g.past new → ⊥
 
 -- one call is counted at most
 pub one_call : {T : Type 0} (result : Result T DiskError) (before now : ℕ) →
@@ -83,9 +83,9 @@ module _ {D : Type 0} (g : Ghosts D) where
   }
 
   struck_stays : (a b : D) → KeepsFiles g a b → g.is_honest a →
-      HasStruck g.marks g.past a → HasStruck g.marks g.past b
+      HasStruck g.incidents g.past a → HasStruck g.incidents g.past b
   struck_stays a b k h struck =
-      stays_struck (fault_of (g.marks a)) (fault_of (g.marks b)) (length (g.past a))
+      stays_struck (fault_of (g.incidents a)) (fault_of (g.incidents b)) (length (g.past a))
       (length (g.past b))
       (ap fault_of k.fault)
       (past_grows _ (g.past a) (g.past b) (k.still h).later) struck

@@ -102,7 +102,7 @@ impl<D: Disk + Drop> Disk for CachedDisk<D> {
 
     ghost past = { λ files. D.past files.disk };
 
-    ghost marks = { λ files. D.marks files.disk };
+    ghost incidents = { λ files. D.incidents files.disk };
 
     ghost allocates = { D.allocates };
 

@@ -10,12 +10,12 @@ use Rattle.table_format.specs.Tables.{different_keys}
 use Rattle.table_format.specs.Examples.{single_table}
 use Rattle.std.proofs.lemmas.List.{append-nil}
 use Rattle.std.proofs.lemmas.List.Concat.{flat_map-cons}
+use Rattle.byte_fields.specs.{key_bytes}
 use Rattle.kv_types.specs.{Entry}
-use Rattle.byte_fields.specs.{text_bytes}
 use Rattle.table_format.specs.FrontsLemmas.{length-block_part}
 use Rattle.table_format.specs.SealedLemmas.{length-sealed}
 use Rattle.table_format.specs.TablesLemmas.{length-footer, length-table}
-use Rattle.table_format.specs.Blocks.{be32, be64, entries_bytes, block_part, key_bytes}
+use Rattle.table_format.specs.Blocks.{be32, be64, entries_bytes, block_part}
 use Rattle.table_format.specs.Examples.{TableExamples, of_a, put_a, single}
 use Rattle.table_format.specs.Tables.{Block, TableRepresents, block_bytes, block_entries}
 use Rattle.table_format.specs.Tables.{block_lines, data_bytes}
@@ -65,12 +65,9 @@ length-filter_part filter =
       length-append (be32 (length filter)) filter,
     )
 
-length-text : (bytes : List ℕ) → length (text_bytes bytes) ≡ length bytes + 2
-length-text bytes = omega arith
-
 -- the index of one block
 length-single_index : (entry : Entry)
-    → length (index_part (block_lines 0 (single entry ∷ []))) ≡ 34 + length entry.key
+    → length (index_part (block_lines 0 (single entry ∷ []))) ≡ 32 + length (key_bytes entry.key)
 length-single_index entry =
     let line = block_line 0 (single entry) in
     omega (
@@ -80,19 +77,18 @@ length-single_index entry =
       ap length (flat_map-cons line_bytes line []),
       length-append (line_bytes line) [],
       length-append (key_bytes entry.key) (be64 entry.number),
-      length-text entry.key,
     )
 
 -- the table of one entry
 pub length-single : (bytes : List ℕ) (entry : Entry) → TableRepresents bytes (entry ∷ [])
-    → length bytes ≡ 118 + (length (entries_bytes (entry ∷ [])) + length entry.key)
+    → length bytes ≡ 116 + (length (entries_bytes (entry ∷ [])) + length (key_bytes entry.key))
 length-single bytes entry t =
     let one = single_block t.blocks entry t.division in
     let blocks : length (data_bytes t.blocks) ≡ length (block_part (entry ∷ [])) =
     ap (λ (bs : List Block). length (data_bytes bs)) one
     ∙ ap length (flat_map-cons block_bytes (single entry) [])
     ∙ ap length (append-nil (block_part (entry ∷ []))) in
-    let index : length (index_part (block_lines 0 t.blocks)) ≡ 34 + length entry.key =
+    let index : length (index_part (block_lines 0 t.blocks)) ≡ 32 + length (key_bytes entry.key) =
     ap (λ (bs : List Block). length (index_part (block_lines 0 bs))) one
     ∙ length-single_index entry in
     let filter : length t.filter ≡ 8 = t.exact.len in
@@ -116,7 +112,7 @@ one_line len =
     index_content (record { place = 0; len = len; key = put_a.key; number = 1 } ∷ [])
 
 put_a_fits : IsTableEntry put_a
-put_a_fits = record { key = omega arith; number = omega arith; value = omega arith }
+put_a_fits = record { key = (omega arith, omega arith); number = omega arith; value = omega arith }
 
 each_fits : All IsTableEntry (put_a ∷ [])
 each_fits = All-from_recursion IsTableEntry (put_a ∷ []) (put_a_fits, tt)
@@ -128,7 +124,7 @@ small : All (λ block. length (block_bytes block) < 2 ^ 32) (single put_a ∷ []
 small = All-from_recursion (λ block. length (block_bytes block) < 2 ^ 32) (single put_a ∷ [])
     (omega (arith, length-block_part (put_a ∷ [])), tt)
 
-single_data : length (data_bytes (single put_a ∷ [])) ≡ 27
+single_data : length (data_bytes (single put_a ∷ [])) ≡ 28
 single_data = ap length (flat_map-cons block_bytes (single put_a) [])
     ∙ ap length (append-nil (block_part (put_a ∷ []))) ∙ length-block_part (put_a ∷ [])
 

@@ -3,7 +3,8 @@ use Rattle.std.proofs.Common.{ℕ, ◌^◌, List, refl}
 use Rattle.std.specs.Int.{w32, w64}
 use Rattle.byte_fields.specs.ReadersLemmas.{Reads, both_reads, made_reads, right_reads}
 use Rattle.byte_fields.specs.ReadersLemmas.{number_reads, wide32, wide64}
-use Rattle.table_format.specs.EntriesLemmas.{count_reads, key_reads}
+use Rattle.byte_fields.specs.SpelledKeysLemmas.{key_reads}
+use Rattle.table_format.specs.EntriesLemmas.{count_reads}
 use Rattle.table_format.specs.Parts.{IsIndexLine}
 use Rattle.table_format.specs.Reading.{as_line, line_at}
 use Rattle.table_format.specs.Tables.{line_bytes}

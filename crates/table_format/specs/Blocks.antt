@@ -4,9 +4,9 @@ use Rattle.std.specs.Prelude.{Option, Some, None, IfSome, All, AllPairs}
 use Rattle.std.specs.List.{flat_map}
 use Rattle.std.specs.Int.{w32, w64, to_be_bytes}
 use Rattle.sha2.specs.Sha256.{sha256}
-use Rattle.kv_types.specs.{Entry, StoredKey}
+use Rattle.byte_fields.specs.{key_bytes}
+use Rattle.kv_types.specs.{Entry}
 use Rattle.byte_fields.specs.{text_bytes}
-use Rattle.kv_types.specs.declared.bounds.TheConstants.{MAX_KEY}
 use Rattle.merge_iter.specs.declared.Direction.TheVariants.{Forward}
 use Rattle.merge_iter.specs.{EntryPrecedes}
 pub use Rattle.merge_iter.specs.{IsTableEntry}
@@ -30,14 +30,6 @@ abbrev pub be64 : ℕ → List ℕ
 be64 n = to_be_bytes w64 n
 
 -- ---- entries
-
--- a key that a table may have
-abbrev pub IsStoredKey : StoredKey → Type 0
-IsStoredKey key = length key ≤ MAX_KEY
-
--- its length and its bytes
-abbrev pub key_bytes : StoredKey → List ℕ
-key_bytes key = text_bytes key
 
 -- a put is the byte 1 and the value, a deletion the byte 2
 abbrev pub change_bytes : Option (List ℕ) → List ℕ

@@ -3,25 +3,17 @@ use Rattle.std.proofs.Common.{◌≡◌, ℕ, zero, suc, ◌≤◌, List, [], �
 use Rattle.std.proofs.Common.{None}
 use Rattle.std.proofs.Common.{IfSome, refl, ap, subst, arith, nat_le, ◌^◌}
 use Rattle.std.proofs.lemmas.Bool.{leb-true, le-leb}
-use Rattle.kv_types.specs.declared.bounds.TheConstants.{MAX_KEY, MAX_VALUE, MAX_NUMBER}
+use Rattle.byte_fields.specs.{StoredKey}
+use Rattle.byte_fields.specs.SpelledKeysLemmas.{key_reads}
+use Rattle.kv_types.specs.declared.bounds.TheConstants.{MAX_VALUE, MAX_NUMBER}
 use Rattle.byte_fields.specs.{◌>>=◌, text_at}
 use Rattle.byte_fields.specs.FieldsLemmas.{IsBytes, IsBytes-rest, bind_some, some_is, BeginsWith}
 use Rattle.byte_fields.specs.TextsLemmas.{text_begins, text_again}
 use Rattle.byte_fields.specs.ReadersLemmas.{Reads, both_reads, made_reads, only_reads, right_reads}
 use Rattle.byte_fields.specs.ReadersLemmas.{number_reads, wide64}
 use Rattle.kv_types.specs.{Entry}
-use Rattle.table_format.specs.Blocks.{IsStoredKey, IsTableEntry, be64, change_bytes, entry_bytes}
-use Rattle.table_format.specs.Blocks.{key_bytes}
-use Rattle.table_format.specs.Reading.{as_entry, change_at, key_at, stored_number_at}
-use Rattle.table_format.specs.Reading.{table_entry_at}
-
--- a key is read as it is spelled
-pub key_reads : Reads IsStoredKey key_bytes key_at
-unfolding key_at
-key_reads = record {
-  takes = λ bytes x fits e. text_begins MAX_KEY bytes x fits e;
-  again = λ key rest is. text_again MAX_KEY key rest is (omega arith);
-}
+use Rattle.table_format.specs.Blocks.{IsTableEntry, be64, change_bytes, entry_bytes}
+use Rattle.table_format.specs.Reading.{as_entry, change_at, stored_number_at, table_entry_at}
 
 -- a number is read as it is spelled
 pub count_reads : Reads (λ n. n ≤ MAX_NUMBER) be64 stored_number_at
@@ -69,7 +61,7 @@ change_again None rest is = refl
 change_reads : Reads IsChange change_bytes change_at
 change_reads = record { takes = change_takes; again = change_again }
 
-abbrev as_parts : Entry → List ℕ × (ℕ × Option (List ℕ))
+abbrev as_parts : Entry → StoredKey × (ℕ × Option (List ℕ))
 as_parts entry = (entry.key, (entry.number, entry.value))
 
 -- an entry that is read is the one that was spelled

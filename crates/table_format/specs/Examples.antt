@@ -1,6 +1,7 @@
 -- Tables of one entry, worked out.
 use Rattle.std.specs.Prelude.{◌≡◌, ℕ, List, [], ◌∷◌, length, codes, Option, Some, None}
 use Rattle.bloom.specs.{IsFilter}
+use Rattle.byte_fields.specs.{row_key}
 use Rattle.kv_types.specs.{Entry}
 use Rattle.table_format.specs.declared.footer.Footer.{Footer}
 use Rattle.table_format.specs.Blocks.{block_content, block_part}
@@ -9,7 +10,7 @@ use Rattle.table_format.specs.Tables.{TableRepresents, different_keys, index_par
 
 -- what the batch with number 1 left of `a`
 abbrev pub of_a : Option (List ℕ) → Entry
-of_a value = record { key = codes "a"; number = 1; value = value }
+of_a value = record { key = row_key (codes "a"); number = 1; value = value }
 
 -- a put of 1 at the key a
 abbrev pub put_a : Entry
@@ -26,18 +27,18 @@ single_table entry filter = table_spelling (single entry ∷ []) filter
 -- the bytes of a block of one entry, of its line, and of a table of it
 pub record TableExamples : Type 0 where
   pub content : block_content (put_a ∷ [])
-      ≡ 0 ∷ 0 ∷ 0 ∷ 1 ∷ 0 ∷ 1 ∷ 97 ∷ 0 ∷ 0 ∷ 0 ∷ 0 ∷ 0 ∷ 0 ∷ 0 ∷ 1 ∷ 1 ∷ 0 ∷ 1 ∷ 49 ∷ []
+      ≡ 0 ∷ 0 ∷ 0 ∷ 1 ∷ 0 ∷ 0 ∷ 1 ∷ 97 ∷ 0 ∷ 0 ∷ 0 ∷ 0 ∷ 0 ∷ 0 ∷ 0 ∷ 1 ∷ 1 ∷ 0 ∷ 1 ∷ 49 ∷ []
   pub line : index_content (block_lines 0 (single put_a ∷ []))
-      ≡ 0 ∷ 0 ∷ 0 ∷ 1 ∷ 0 ∷ 0 ∷ 0 ∷ 0 ∷ 0 ∷ 0 ∷ 0 ∷ 0 ∷ 0 ∷ 0 ∷ 0 ∷ 27 ∷ 0 ∷ 1 ∷ 97
+      ≡ 0 ∷ 0 ∷ 0 ∷ 1 ∷ 0 ∷ 0 ∷ 0 ∷ 0 ∷ 0 ∷ 0 ∷ 0 ∷ 0 ∷ 0 ∷ 0 ∷ 0 ∷ 28 ∷ 0 ∷ 0 ∷ 1 ∷ 97
       ∷ 0 ∷ 0 ∷ 0 ∷ 0 ∷ 0 ∷ 0 ∷ 0 ∷ 1 ∷ []
-  pub block : length (block_part (put_a ∷ [])) ≡ 27
+  pub block : length (block_part (put_a ∷ [])) ≡ 28
   pub filter : (bytes : List ℕ) → length bytes ≡ 8 → length (filter_part bytes) ≡ 20
-  pub index : length (index_part (block_lines 0 (single put_a ∷ []))) ≡ 35
+  pub index : length (index_part (block_lines 0 (single put_a ∷ []))) ≡ 36
   pub footer : (it : Footer) → length (footer_part it) ≡ 52
-  pub smallest : (bytes : List ℕ) → TableRepresents bytes (put_a ∷ []) → length bytes ≡ 134
-  pub deletion : (bytes : List ℕ) → TableRepresents bytes (of_a None ∷ []) → length bytes ≡ 131
+  pub smallest : (bytes : List ℕ) → TableRepresents bytes (put_a ∷ []) → length bytes ≡ 136
+  pub deletion : (bytes : List ℕ) → TableRepresents bytes (of_a None ∷ []) → length bytes ≡ 133
   pub longer : (bytes value : List ℕ) → length value ≡ 200 →
-      TableRepresents bytes (of_a (Some value) ∷ []) → length bytes ≡ 333
-  pub represented : (filter : List ℕ) → IsFilter (codes "a" ∷ []) filter →
+      TableRepresents bytes (of_a (Some value) ∷ []) → length bytes ≡ 335
+  pub represented : (filter : List ℕ) → IsFilter (row_key (codes "a") ∷ []) filter →
       TableRepresents (single_table put_a filter) (put_a ∷ [])
-  pub other_keys : different_keys (put_a ∷ of_a None ∷ []) ≡ codes "a" ∷ []
+  pub other_keys : different_keys (put_a ∷ of_a None ∷ []) ≡ row_key (codes "a") ∷ []

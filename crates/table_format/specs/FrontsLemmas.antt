@@ -10,11 +10,12 @@ use Rattle.std.proofs.lemmas.List.Concat.{flat_map-cons}
 use Rattle.std.proofs.lemmas.Nat.{from_be_bytes-to_be_bytes_4}
 use Rattle.byte_fields.specs.{many}
 use Rattle.byte_fields.specs.ReadersLemmas.{many_again}
+use Rattle.byte_fields.specs.{key_bytes}
 use Rattle.kv_types.specs.{Entry}
 use Rattle.table_format.specs.EntriesLemmas.{entry_reads}
 use Rattle.table_format.specs.SealedLemmas.{length-digest, length-sealed}
 use Rattle.table_format.specs.Blocks.{IsTableEntry, be32, be64, block_content, block_part}
-use Rattle.table_format.specs.Blocks.{change_bytes, digest, entries_bytes, entry_bytes, key_bytes}
+use Rattle.table_format.specs.Blocks.{change_bytes, digest, entries_bytes, entry_bytes}
 use Rattle.table_format.specs.Reading.{table_entry_at}
 use Rattle.table_format.specs.Tables.{Block, block_bytes, block_entries, data_bytes}
 use Rattle.table_format.specs.Tables.{entries_of_blocks}
@@ -65,8 +66,8 @@ change_long : (value : Option (List ℕ)) → 1 ≤ length (change_bytes value)
 change_long (Some value) = omega (arith, length-append (to_be_bytes w16 (length value)) value)
 change_long None = omega arith
 
--- a spelled entry has 11 bytes or more
-pub entry_long : (entry : Entry) → 11 ≤ length (entry_bytes entry)
+-- a spelled entry has 9 bytes or more, whatever its key is
+pub entry_long : (entry : Entry) → 9 ≤ length (entry_bytes entry)
 entry_long entry =
     let changed : 1 ≤ length (change_bytes entry.value) = change_long entry.value in
     omega (
@@ -74,7 +75,6 @@ entry_long entry =
       changed,
       length-append (key_bytes entry.key) (be64 entry.number ++ change_bytes entry.value),
       length-append (be64 entry.number) (change_bytes entry.value),
-      length-append (to_be_bytes w16 (length entry.key)) entry.key,
     )
 
 -- a block has fewer entries than bytes

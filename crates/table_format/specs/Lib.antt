@@ -17,7 +17,7 @@ pub mod BlockLoopLemmas
 -- What crates above name.
 pub use Rattle.table_format.specs.Blocks.{AreRising, CanFollow, IsBlock, IsBlockText}
 pub use Rattle.table_format.specs.Blocks.{IsCheckedBlock, last_entry}
-pub use Rattle.table_format.specs.Blocks.{IsStoredKey, IsTableEntry, be32, be64, block_content}
+pub use Rattle.table_format.specs.Blocks.{IsTableEntry, be32, be64, block_content}
 pub use Rattle.table_format.specs.Blocks.{block_part, entries_bytes, entry_bytes, sealed}
 unfoldable pub use Rattle.table_format.specs.Blocks.{digest}
 pub use Rattle.table_format.specs.Errors.{file_error, table_error}

@@ -1,6 +1,7 @@
 -- The parts of a table by themselves: what their bytes represent.
 use Rattle.std.specs.Prelude.{◌≡◌, ◌⊎◌, ℕ, ◌+◌, ◌<◌, ◌≤◌, ◌^◌, List, [], ◌∷◌, length, map, All}
 use Rattle.std.specs.Prelude.{Option, Some, None, Result, Ok, Err}
+use Rattle.byte_fields.specs.{IsStoredKey}
 use Rattle.kv_types.specs.declared.bounds.TheConstants.{MAX_NUMBER}
 use Rattle.kv_types.specs.{Entry}
 use Rattle.merge_iter.specs.{spot}
@@ -8,7 +9,7 @@ use Rattle.table_format.specs.declared.error.FileError.{FileError}
 use Rattle.table_format.specs.declared.error.FileError.TheVariants.{Memory, Damaged}
 use Rattle.table_format.specs.declared.line.IndexLine.{IndexLine}
 use Rattle.table_format.specs.declared.footer.Footer.{Footer}
-use Rattle.table_format.specs.Blocks.{IsStoredKey, AreRising}
+use Rattle.table_format.specs.Blocks.{AreRising}
 use Rattle.table_format.specs.Tables.{filter_part, index_part, footer_part}
 
 -- ---- results of readers

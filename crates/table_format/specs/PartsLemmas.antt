@@ -12,7 +12,7 @@ use Rattle.table_format.specs.SealedLemmas.{length-sealed}
 use Rattle.table_format.specs.Blocks.{be32, be64, digest, sealed}
 use Rattle.table_format.specs.Parts.{HasFieldRanges, IsFilterPart, IsFooter}
 use Rattle.table_format.specs.Reading.{as_footer, footer_at}
-use Rattle.table_format.specs.Tables.{footer_content, mark}
+use Rattle.table_format.specs.Tables.{footer_content, magic}
 use Rattle.table_format.specs.declared.footer.Footer.{Footer}
 
 -- of one text with a digest there is one content
@@ -33,9 +33,9 @@ abbrev fields_text : Footer → List ℕ
 fields_text it = be64 it.index ++
     (be32 it.index_len ++ (be64 it.filter ++ (be32 it.filter_len ++ be64 it.entries)))
 
--- what a footer ends in: the number of the format and the mark
+-- what a footer ends in: the number of the format and the magic
 abbrev pub format_bytes : List ℕ
-format_bytes = be32 1 ++ mark
+format_bytes = be32 2 ++ magic
 
 -- the fields of a footer are read as they are spelled
 pub footer_reads : Reads HasFieldRanges fields_text footer_at
@@ -80,7 +80,7 @@ footer_same part content it rest is read other f =
     (sym (footer_again part content other is f) ∙ read) in
     (ap (λ (p : Footer × List ℕ). p.0) e, sym (ap (λ (p : Footer × List ℕ). p.1) e))
 
--- what is read up to the number of the format and the mark is a footer
+-- what is read up to the number of the format and the magic is a footer
 pub footer_right : (part content : List ℕ) (it : Footer) (rest : List ℕ) → part ≡ sealed content
     → IsBytes content
     → footer_at content ≡ Some (it, rest) → rest ≡ format_bytes → IsFooter part it

@@ -2,8 +2,9 @@
 use Rattle.std.specs.Prelude.{ℕ, zero, suc, List, [], ◌∷◌, Option, Some, None, nat_le}
 use Rattle.std.specs.Option.{option_map}
 use Rattle.std.specs.Int.{w32, w64}
-use Rattle.kv_types.specs.declared.bounds.TheConstants.{MAX_KEY, MAX_VALUE, MAX_NUMBER}
-use Rattle.kv_types.specs.{Entry, StoredKey, lent_key}
+use Rattle.byte_fields.specs.{StoredKey, key_at, lent_key}
+use Rattle.kv_types.specs.declared.bounds.TheConstants.{MAX_VALUE, MAX_NUMBER}
+use Rattle.kv_types.specs.{Entry}
 use Rattle.byte_fields.specs.{◌>>=◌, text_at, Reader, both, mapped, only, number_at}
 use Rattle.table_format.specs.declared.line.IndexLine.{IndexLine}
 use Rattle.table_format.specs.declared.line.LentLine.{LentLine}
@@ -11,10 +12,6 @@ use Rattle.table_format.specs.declared.footer.Footer.{Footer}
 use Rattle.table_format.specs.declared.entry.LentEntry.{LentEntry}
 
 -- ---- entries
-
--- a key within its limit
-unfoldable pub key_at : Reader StoredKey
-key_at bytes = text_at MAX_KEY bytes
 
 -- a number of a batch
 unfoldable pub stored_number_at : Reader ℕ

@@ -4,11 +4,12 @@ use Rattle.std.specs.Prelude.{Bool, false, if◌then◌else◌}
 use Rattle.std.specs.List.{flat_map}
 use Rattle.std.specs.Str.{bytes_eq}
 use Rattle.bloom.specs.{IsFilter}
-use Rattle.kv_types.specs.{Entry, StoredKey}
+use Rattle.byte_fields.specs.{StoredKey, key_bytes}
+use Rattle.kv_types.specs.{Entry}
 use Rattle.table_format.specs.declared.sizes.TheConstants.{MAX_DATA}
 use Rattle.table_format.specs.declared.line.IndexLine.{IndexLine}
 use Rattle.table_format.specs.declared.footer.Footer.{Footer}
-use Rattle.table_format.specs.Blocks.{sealed, be32, be64, key_bytes, IsTableEntry, AreRising}
+use Rattle.table_format.specs.Blocks.{sealed, be32, be64, IsTableEntry, AreRising}
 use Rattle.table_format.specs.Blocks.{block_part}
 
 -- ---- blocks one behind the other
@@ -84,14 +85,14 @@ different_keys (entry ∷ entries) =
 -- ---- the footer
 
 -- `CRLSMT01`
-abbrev pub mark : List ℕ
-mark = 67 ∷ 82 ∷ 76 ∷ 83 ∷ 77 ∷ 84 ∷ 48 ∷ 49 ∷ []
+abbrev pub magic : List ℕ
+magic = 67 ∷ 82 ∷ 76 ∷ 83 ∷ 77 ∷ 84 ∷ 48 ∷ 49 ∷ []
 
--- the fields, format 1, and the mark
+-- the fields, format 2, and the magic
 abbrev pub footer_content : Footer → List ℕ
 footer_content it =
     be64 it.index ++ (be32 it.index_len ++ (be64 it.filter ++ (be32 it.filter_len
-    ++ (be64 it.entries ++ (be32 1 ++ mark)))))
+    ++ (be64 it.entries ++ (be32 2 ++ magic)))))
 
 -- the footer with its digest
 abbrev pub footer_part : Footer → List ℕ

@@ -1,14 +1,11 @@
 //! Entries that are lent from the block that they stand in.
-ghost use Rattle.std.specs.Prelude.{◌≤◌, length, option_map, IfSome};
-ghost use Rattle.kv_types.specs.declared.bounds.TheConstants.{MAX_KEY};
-ghost use Rattle.kv_types.specs.{lent_key};
+ghost use Rattle.std.specs.Prelude.{option_map};
 ghost use Rattle.byte_fields.specs.{ReadsFront};
-ghost use Rattle.table_format.specs.Reading.{key_at, stored_number_at, change_at, table_entry_at};
-ghost use Rattle.table_format.specs.Reading.{lent_entry};
+ghost use Rattle.table_format.specs.Reading.{change_at, lent_entry, stored_number_at};
+ghost use Rattle.table_format.specs.Reading.{table_entry_at};
 
-use byte_fields::{read_text, read_u64};
-use kv_types::LentKey;
-use kv_types::bounds::{MAX_KEY, MAX_NUMBER, MAX_VALUE};
+use byte_fields::{LentKey, read_text, read_u64};
+use kv_types::bounds::{MAX_NUMBER, MAX_VALUE};
 
 /// A version of a key, lent: its value at a number, or `None` if the key was deleted there.
 #[derive(Clone, Copy)]
@@ -27,15 +24,6 @@ pub fn number_of(bytes: &[u8]) -> Option<(u64, &[u8])>
         return None;
     }
     Some((number, rest))
-}
-
-#[tactic(auto, unfolding(crate::specs::Reading::key_at))]
-pub fn key_of(bytes: &[u8]) -> Option<(LentKey<'_>, &[u8])>
-    ensures key { ReadsFront (λ x. (lent_key x.0, x.1.now)) result (key_at bytes.now) }
-    ensures limit { IfSome result (λ x. length (lent_key x.0) ≤ MAX_KEY) }
-{
-    let (key, rest) = read_text(MAX_KEY, bytes)?;
-    Some((LentKey::new(key), rest))
 }
 
 #[tactic(auto, unfolding(crate::specs::Reading::change_at))]
@@ -58,7 +46,7 @@ fn change_of(bytes: &[u8]) -> Option<(Option<&[u8]>, &[u8])>
 pub fn entry_of(bytes: &[u8]) -> Option<(LentEntry<'_>, &[u8])>
     ensures { ReadsFront (λ x. (lent_entry x.0, x.1.now)) result (table_entry_at bytes.now) }
 {
-    let (key, rest) = key_of(bytes)?;
+    let (key, rest) = LentKey::read_from(bytes)?;
     let (number, rest) = number_of(rest)?;
     let (value, rest) = change_of(rest)?;
     Some((LentEntry { key, number, value }, rest))

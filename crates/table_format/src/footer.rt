@@ -9,8 +9,8 @@ use crate::part::{seal, unsealed};
 use byte_fields::{put_u32, put_u64, read_u32, read_u64};
 use std::alloc::{AllocError, Global};
 
-/// Format 1 and the mark `CRLSMT01`.
-const FORMAT: [u8; 12] = [0, 0, 0, 1, 67, 82, 76, 83, 77, 84, 48, 49];
+/// Format 2 and the magic `CRLSMT01`.
+const FORMAT: [u8; 12] = [0, 0, 0, 2, 67, 82, 76, 83, 77, 84, 48, 49];
 
 /// Where index and filter stand in a file, how long they are with their digests, and how many
 /// entries the table has.

@@ -1,13 +1,11 @@
 //! Lines of an index.
-ghost use Rattle.std.specs.Prelude.{◌≡◌, ◌≤◌, length, IfSome, IfOk};
-ghost use Rattle.kv_types.specs.declared.bounds.TheConstants.{MAX_KEY};
-ghost use Rattle.kv_types.specs.{lent_key};
+ghost use Rattle.std.specs.Prelude.{◌≡◌, IfSome, IfOk};
+ghost use Rattle.byte_fields.specs.{IsStoredKey, lent_key};
 ghost use Rattle.byte_fields.specs.{ReadsFront};
 ghost use Rattle.table_format.specs.Reading.{lent_line, line_at};
 
-use crate::entry::{key_of, number_of};
-use byte_fields::{read_u32, read_u64};
-use kv_types::{LentKey, StoredKey};
+use crate::entry::number_of;
+use byte_fields::{LentKey, StoredKey, read_u32, read_u64};
 use std::alloc::{AllocError, Global};
 
 /// A line of an index: the place of a block in the file, its length with its digest, and key and
@@ -33,11 +31,11 @@ pub struct LentLine<'a> {
 #[tactic(auto, unfolding(crate::specs::Reading::line_at))]
 pub fn line_of(bytes: &[u8]) -> Option<(LentLine<'_>, &[u8])>
     ensures line { ReadsFront (λ x. (lent_line x.0, x.1.now)) result (line_at bytes.now) }
-    ensures limit { IfSome result (λ x. length (lent_key x.0.key) ≤ MAX_KEY) }
+    ensures limit { IfSome result (λ x. IsStoredKey (lent_key x.0.key)) }
 {
     let (place, rest) = read_u64(bytes)?;
     let (len, rest) = read_u32(rest)?;
-    let (key, rest) = key_of(rest)?;
+    let (key, rest) = LentKey::read_from(rest)?;
     let (number, rest) = number_of(rest)?;
     let line = LentLine {
         place,
@@ -50,7 +48,7 @@ pub fn line_of(bytes: &[u8]) -> Option<(LentLine<'_>, &[u8])>
 
 /// A copy of a line.
 pub fn copied(alloc: Global, line: LentLine) -> Result<IndexLine, AllocError>
-    requires { length (lent_key line.key) ≤ MAX_KEY }
+    requires { IsStoredKey (lent_key line.key) }
     ensures { IfOk result (λ copy. copy ≡ lent_line line.entry) }
 {
     let key = line.key.to_stored(alloc)?;

@@ -1,7 +1,7 @@
 //! Entries and lines, written as bytes.
 ghost use Rattle.std.specs.Prelude.{◌≡◌, ◌≤◌, ◌++◌, length, OnOk, IfSome, option_map};
-ghost use Rattle.kv_types.specs.declared.bounds.TheConstants.{MAX_KEY, MAX_VALUE};
-ghost use Rattle.kv_types.specs.{lent_key};
+ghost use Rattle.byte_fields.specs.{IsStoredKey, lent_key};
+ghost use Rattle.kv_types.specs.declared.bounds.TheConstants.{MAX_VALUE};
 ghost use Rattle.table_format.specs.Blocks.{change_bytes, entry_bytes};
 ghost use Rattle.table_format.specs.Reading.{lent_entry};
 ghost use Rattle.table_format.specs.Tables.{line_bytes};
@@ -29,18 +29,18 @@ fn put_change(out: &mut Vec<u8>, value: Option<&[u8]>) -> Result<(), AllocError>
 
 /// Appends an entry.
 pub fn put_entry(out: &mut Vec<u8>, entry: LentEntry) -> Result<(), AllocError>
-    requires key { length (lent_key entry.key) ≤ MAX_KEY }
+    requires key { IsStoredKey (lent_key entry.key) }
     requires value { IfSome entry.value (λ v. length v.now ≤ MAX_VALUE) }
     ensures { OnOk result (out.new.items ≡ out.old.items ++ entry_bytes (lent_entry entry.entry)) }
 {
-    put_text(out, entry.key.as_bytes())?;
+    entry.key.spell_into(out)?;
     put_u64(out, entry.number)?;
     put_change(out, entry.value)
 }
 
 /// The number of bytes of an entry.
 pub fn entry_len(entry: LentEntry) -> usize
-    requires key { length (lent_key entry.key) ≤ MAX_KEY }
+    requires key { IsStoredKey (lent_key entry.key) }
     requires value { IfSome entry.value (λ v. length v.now ≤ MAX_VALUE) }
     ensures { result ≡ length (entry_bytes (lent_entry entry.entry)) }
 {
@@ -48,7 +48,7 @@ pub fn entry_len(entry: LentEntry) -> usize
         Some(value) => 2 + value.len(),
         None => 0,
     };
-    11 + entry.key.len() + value
+    12 + entry.key.len() + value
 }
 
 /// Appends a line of an index.

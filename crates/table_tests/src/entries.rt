@@ -1,7 +1,8 @@
 //! Entries with memory of their own.
 
-use crate::items::{copy_of, is_same, key_of, put};
+use crate::items::{copy_of, is_same, put, row_key_of};
 use crate::plain::PlainEntry;
+use byte_fields::StoredKey;
 use merge_iter::OwnedEntry;
 use std::alloc::Global;
 use std::process::Abort;
@@ -15,7 +16,22 @@ pub fn is_same_value(found: Option<&[u8]>, want: Option<&[u8]>) -> bool {
     }
 }
 
-/// An entry with a copy of these bytes.
+/// An entry of this key with a copy of these bytes.
+pub fn entry_at(
+    rt: &impl Abort,
+    alloc: Global,
+    key: StoredKey,
+    number: u64,
+    value: Option<&[u8]>,
+) -> OwnedEntry {
+    let value = match value {
+        Some(bytes) => Some(copy_of(rt, alloc, bytes)),
+        None => None,
+    };
+    OwnedEntry::new(key, number, value).expect(rt, "an entry within the limits")
+}
+
+/// The entry of a row with a copy of these bytes.
 pub fn entry_of(
     rt: &impl Abort,
     alloc: Global,
@@ -23,12 +39,12 @@ pub fn entry_of(
     number: u64,
     value: Option<&[u8]>,
 ) -> OwnedEntry {
-    let key = key_of(rt, alloc, key);
-    let value = match value {
-        Some(bytes) => Some(copy_of(rt, alloc, bytes)),
-        None => None,
-    };
-    OwnedEntry::new(key, number, value).expect(rt, "an entry within the limits")
+    entry_at(rt, alloc, row_key_of(rt, alloc, key), number, value)
+}
+
+/// The key at which the last mark of this client stands.
+pub fn client_key(rt: &impl Abort, alloc: Global, client: u64) -> StoredKey {
+    StoredKey::of_client(alloc, client).expect(rt, "memory")
 }
 
 /// The entry, with a key and a value in two bytes.

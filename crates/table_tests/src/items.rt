@@ -1,5 +1,6 @@
 //! Keys, batches, lists and the like, as tests make them.
 
+use byte_fields::{MAX_KEY, Space, StoredKey};
 use kv_types::{Batch, Edit, Key, Number, Value};
 use std::alloc::Global;
 use std::process::Abort;
@@ -19,8 +20,25 @@ pub fn put<T: Drop>(rt: &impl Abort, list: &mut Vec<T>, item: T) {
     list.push(item).expect(rt, "memory");
 }
 
+/// This byte so many times.
+pub fn filled(rt: &impl Abort, alloc: Global, byte: u8, len: usize) -> Vec<u8> {
+    vec![in alloc; byte; len].expect(rt, "memory")
+}
+
 pub fn key_of(rt: &impl Abort, alloc: Global, bytes: &[u8]) -> Key {
     Key::new(copy_of(rt, alloc, bytes)).expect(rt, "a key")
+}
+
+/// The key of the row at these bytes, as that of an entry.
+pub fn row_key_of(rt: &impl Abort, alloc: Global, bytes: &[u8]) -> StoredKey {
+    let key = key_of(rt, alloc, bytes);
+    key.stored().clone().expect(rt, "memory")
+}
+
+/// The key of a mark that has these bytes.
+pub fn mark_key_of(rt: &impl Abort, bytes: Vec<u8>) -> StoredKey {
+    assert!(rt; bytes.len() <= MAX_KEY);
+    StoredKey::new(Space::Marks, bytes)
 }
 
 pub fn value_of(rt: &impl Abort, alloc: Global, bytes: &[u8]) -> Value {

@@ -4,7 +4,7 @@ use crate::entries::is_same_value;
 use crate::items::is_same;
 use crate::plain::{Move, PlainEntry, PlainWalk, move_of};
 use crate::sequence::Sequence;
-use kv_types::LentKey;
+use byte_fields::{LentKey, Space};
 use merge_iter::{Cursor, CursorError, OwnedEntry};
 use std::process::Abort;
 
@@ -20,7 +20,11 @@ pub fn apply<C: Cursor>(
     match step {
         Move::First => cursor.first(source),
         Move::Last => cursor.last(source),
-        Move::Seek(key, number) => cursor.seek(source, LentKey::new(&key.to_be_bytes()), number),
+        Move::Seek(key, number) => cursor.seek(
+            source,
+            LentKey::new(Space::Rows, &key.to_be_bytes()),
+            number,
+        ),
         Move::Next if cursor.valid() => cursor.next(source),
         Move::Prev if cursor.valid() => cursor.prev(source),
         _ => Ok(()),
@@ -79,7 +83,7 @@ fn is_at_place<C: Cursor>(cursor: &C, entries: &[OwnedEntry], place: usize) -> b
         return false;
     };
     cursor.valid()
-        && is_same(cursor.key().as_bytes(), want.key.as_bytes())
+        && is_same(cursor.key().as_bytes(), want.key.lent().as_bytes())
         && cursor.number() == want.number
         && is_same_value(cursor.value(), want.value.as_deref())
 }

@@ -8,8 +8,8 @@ use crate::moves::{apply, is_at_key};
 use crate::one_put::{BLOCK, FILTER, FOOTER, index_with, joined};
 use crate::open_tables::{FILE, build, cursor_in, table_in, with_cache, write};
 use crate::plain::Move;
+use byte_fields::{LentKey, Space};
 use disk::MemDisk;
-use kv_types::LentKey;
 use merge_iter::{AtNumber, Cursor, CursorError, Direction, Merged, OwnedEntry, step};
 use sorted_table::{CachedDisk, FileError, TableCursor};
 use std::alloc::Global;
@@ -101,7 +101,7 @@ fn is_stopped_behind<C: Cursor>(
 
 /// The outcome of a seek of this key at number 1.
 fn seek<C: Cursor>(cursor: &mut C, source: &mut C::Source, key: &[u8]) -> Result<(), CursorError> {
-    cursor.seek(source, LentKey::new(key), 1)
+    cursor.seek(source, LentKey::new(Space::Rows, key), 1)
 }
 
 /// Fails the test unless walks forward and back meet just these keys before the damage, and a seek
@@ -252,6 +252,8 @@ fn a_block_that_ends_before_its_line_says(rt: HostRuntime) {
     is_so(&rt, is_damaged && !cursor.valid(), "a seek");
     is_refused(&rt, &mut cursor, &mut files, Move::First, "the first");
     let table = table_in(&rt, alloc, &mut files, FILE);
-    let answer = table.get(alloc, &mut files, LentKey::new(b"a"), 1).err();
+    let answer = table
+        .get(alloc, &mut files, LentKey::new(Space::Rows, b"a"), 1)
+        .err();
     is_so(&rt, answer == Some(FileError::Damaged), "a lookup");
 }

@@ -2,11 +2,11 @@
 
 use crate::cases::{holds_at, is_so};
 use crate::counts::is_count;
-use crate::entries::{entry_of, is_same_value};
-use crate::items::put;
+use crate::entries::{client_key, entry_at, entry_of, is_same_value};
+use crate::items::{filled, mark_key_of, put};
 use crate::open_tables::{FILE, files_of, table_in};
+use byte_fields::{LentKey, Space};
 use disk::{Crash, Fault, MemDisk};
-use kv_types::LentKey;
 use merge_iter::OwnedEntry;
 use sorted_table::{CachedDisk, FoundVersion, Table};
 use std::alloc::Global;
@@ -98,6 +98,46 @@ fn lookups_at_each_number(rt: HostRuntime) {
     }
 }
 
+// ---- both spaces
+
+/// Entries of rows and of marks, whose keys have the same bytes: eight that are client 7, and the
+/// longest.
+fn both(rt: &impl Abort, alloc: Global) -> [OwnedEntry; 4] {
+    let longest = filled(rt, alloc, b'k', 1_024);
+    let of_rows = [0, 0, 0, 0, 0, 0, 0, 7];
+    let of_marks = client_key(rt, alloc, 7);
+    [
+        entry_of(rt, alloc, &of_rows, 5, Some(b"row")),
+        entry_of(rt, alloc, &longest, 6, None),
+        entry_at(rt, alloc, of_marks, 3, Some(b"mark")),
+        entry_at(rt, alloc, mark_key_of(rt, longest), 4, Some(b"long")),
+    ]
+}
+
+/// Whether a lookup of each of the keys finds its entry in the table of these, and none where it is
+/// of no entry of them.
+fn finds_own(rt: &impl Abort, alloc: Global, all: &[OwnedEntry], of: &[OwnedEntry]) -> bool {
+    let mut files = files_of(rt, alloc, of, 1);
+    let table = table_in(rt, alloc, &mut files, FILE);
+    let mut found = 0usize;
+    for entry in all {
+        let asked = (entry.key.lent(), u64::MAX);
+        let want = of.iter().find(|it| it.key == entry.key);
+        found = found.wrapping_add(finds(rt, alloc, &table, &mut files, asked, want) as usize);
+    }
+    found == all.len()
+}
+
+// The first table has rows alone, the second marks alone.
+#[test]
+fn keys_of_the_same_bytes_in_both_spaces(rt: HostRuntime) {
+    let all = both(&rt, rt.alloc());
+    let (rows, marks) = all.split_at(2);
+    is_so(&rt, finds_own(&rt, rt.alloc(), &all, &all), "both");
+    is_so(&rt, finds_own(&rt, rt.alloc(), &all, rows), "rows");
+    is_so(&rt, finds_own(&rt, rt.alloc(), &all, marks), "marks");
+}
+
 // ---- calls of the device
 
 /// A disk with the table of those entries, and a cache of one block.
@@ -115,7 +155,9 @@ fn opening_reaches(rt: &impl Abort, alloc: Global, call: u64) -> bool {
 }
 
 fn answers(alloc: Global, table: &Table, files: &mut CachedDisk<MemDisk>) -> bool {
-    table.get(alloc, files, LentKey::new(b"@"), 5).is_ok()
+    table
+        .get(alloc, files, LentKey::new(Space::Rows, b"@"), 5)
+        .is_ok()
 }
 
 /// Whether such a call is made by two lookups of one key.

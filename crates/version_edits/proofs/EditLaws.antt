@@ -8,17 +8,17 @@ use Rattle.std.specs.Prelude.{IsSomeAnd, option_map, Result, Ok, Err, IfOk, IsEr
 use Rattle.std.specs.Int.{w8, w16, w32, w64, to_be_bytes}
 use Rattle.std.specs.Ordering.{is_lt}
 use Rattle.std.proofs.lemmas.Bool.{leb-true, le-leb, eqb-true}
-use Rattle.byte_fields.specs.{number_at, text_bytes, text_at}
+use Rattle.byte_fields.specs.{number_at}
 use Rattle.byte_fields.specs.ReadersLemmas.{Reads, both_reads, made_reads, only_reads, number_reads}
 use Rattle.byte_fields.specs.ReadersLemmas.{counted_reads, wide8, wide16, wide32, wide64}
 use Rattle.byte_fields.specs.ReadersLemmas.{right_reads, nothing_read}
 use Rattle.configurations.specs.{IsConfig, TestDecidesConfig, is_config, config_text}
-use Rattle.kv_types.specs.declared.bounds.TheConstants.{MAX_NUMBER, MAX_KEY}
-use Rattle.kv_types.specs.Order.{IsBelow}
-use Rattle.kv_types.specs.{stored_cmp}
-use Rattle.kv_types.specs.ByteOrderLemmas.{lt_below}
+use Rattle.byte_fields.specs.Order.{IsBelow}
+use Rattle.byte_fields.specs.{stored_cmp}
+use Rattle.byte_fields.specs.ByteOrderLemmas.{lt_below}
+use Rattle.byte_fields.specs.SpelledKeysLemmas.{key_reads}
+use Rattle.kv_types.specs.declared.bounds.TheConstants.{MAX_NUMBER}
 use Rattle.byte_fields.specs.FieldsLemmas.{IsBytes, IsBytes-rest, BeginsWith, bind_some, some_is}
-use Rattle.byte_fields.specs.TextsLemmas.{text_begins, text_again}
 use Rattle.version_edits.specs.declared.line.TheConstants.{MAX_NEXT}
 use Rattle.version_edits.specs.declared.error.EditError.{EditError}
 use Rattle.version_edits.specs.declared.error.EditError.TheVariants as edit_error
@@ -114,12 +114,6 @@ level_reads =
     only_reads (λ n. nat_le n 6) (λ n is t. leb-true n 6 t)
     (λ n is. (omega (arith, is), le-leb n 6 is)) byte_reads
 
-key_reads : Reads (λ key. length key ≤ MAX_KEY) text_bytes (text_at MAX_KEY)
-key_reads = record {
-  takes = λ bytes x fits e. text_begins MAX_KEY bytes x fits e;
-  again = λ key rest is. text_again MAX_KEY key rest is (omega arith);
-}
-
 -- ---- a configuration
 
 config_reads : TestDecidesConfig → Reads IsConfig config_text config_field
@@ -180,12 +174,12 @@ table_reads =
       level = is.0.0;
       file = is.0.1.0;
       bytes = omega (arith, is.0.1.1);
-      short_least = is.1.0;
-      short_greatest = is.1.1;
+      least = is.1.0;
+      greatest = is.1.1;
       proper = proper_true line t;
     })
     (λ line is. (
-      ((is.level, (is.file, omega (arith, is.bytes))), (is.short_least, is.short_greatest)),
+      ((is.level, (is.file, omega (arith, is.bytes))), (is.least, is.greatest)),
       proper_test line is.proper,
     ))
     (made_reads as_table

@@ -9,7 +9,8 @@ use Rattle.std.proofs.lemmas.List.Elements.{All-head, All-tail}
 use Rattle.std.proofs.lemmas.List.Elements.{All-weaker}
 use Rattle.record_log.specs.declared.log.TheConstants.{MAX_RECORD}
 use Rattle.version_edits.specs.declared.line.TheConstants.{MAX_LINES}
-use Rattle.byte_fields.specs.{text_bytes}
+use Rattle.byte_fields.specs.{key_bytes}
+use Rattle.byte_fields.specs.SpelledKeysLemmas.{key_bytes-short}
 use Rattle.version_edits.specs.declared.line.TableLine.{TableLine}
 use Rattle.version_edits.specs.Versions.{StoreVersion, Change, IsFit}
 use Rattle.version_edits.specs.Versions.{logs_left, tables_left, log_is_before, table_is_before}
@@ -32,17 +33,17 @@ flat_bound {A} k spell (x ∷ xs) all =
     let mult : k * length (x ∷ xs) ≡ k + k * length xs = omega arith in
     omega (arith, one, others, parts, mult)
 
-table_bound : (line : TableLine) → IsTableLine line → length (table_line_bytes line) ≤ 2069
+table_bound : (line : TableLine) → IsTableLine line → length (table_line_bytes line) ≤ 2071
 unfolding table_line_bytes
 table_bound line is =
-    let a = length-append (text_bytes line.least) (text_bytes line.greatest) in
+    let a = length-append (key_bytes line.least) (key_bytes line.greatest) in
     omega (
       arith,
-      is.short_least,
-      is.short_greatest,
+      key_bytes-short line.least is.least,
+      key_bytes-short line.greatest is.greatest,
       a,
       length-append (to_be_bytes w64 line.file ++ to_be_bytes w64 line.length)
-          (text_bytes line.least ++ text_bytes line.greatest),
+          (key_bytes line.least ++ key_bytes line.greatest),
     )
 
 lengths : (a b c d e f g h i : List ℕ)
@@ -87,11 +88,11 @@ change_is_short c is few_logs few_tables =
     let names : length (counted_bytes table_name_bytes c.tables_gone) ≤ 2 + 9 * length c.tables_gone
     =
     counted_bound 9 table_name_bytes c.tables_gone (λ k d lt. omega arith) in
-    let tables : length (counted_bytes table_line_bytes c.tables_added) ≤ 2 + 2069 * length
+    let tables : length (counted_bytes table_line_bytes c.tables_added) ≤ 2 + 2071 * length
     c.tables_added =
-    counted_bound 2069 table_line_bytes c.tables_added
+    counted_bound 2071 table_line_bytes c.tables_added
     (All-weaker IsTableLine (λ line.
-    length (table_line_bytes line) ≤ 2069) table_bound c.tables_added
+    length (table_line_bytes line) ≤ 2071) table_bound c.tables_added
     is.tables_added.1) in
     let total : 8 + 8 + 8 + 4 + length (config_text c.ids)
     + length (counted_bytes (λ file. to_be_bytes w64 file) c.logs_gone)

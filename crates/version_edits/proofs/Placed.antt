@@ -10,9 +10,9 @@ use Rattle.std.proofs.lemmas.Bool.{ltb-true, lt-ltb, eqb-true, eq-eqb, le-ltb, n
 use Rattle.std.proofs.lemmas.List.Elements.{All-cons, All-nil, All-head, All-tail, All-filter}
 use Rattle.std.proofs.lemmas.List.Elements.{All-weaker}
 use Rattle.std.specs.Ordering.{is_lt}
-use Rattle.kv_types.specs.Order.{IsBelow}
-use Rattle.kv_types.specs.ByteOrderLemmas.{lt_below, below_is_strict}
-use Rattle.kv_types.specs.{stored_cmp}
+use Rattle.byte_fields.specs.Order.{IsBelow}
+use Rattle.byte_fields.specs.ByteOrderLemmas.{lt_below, below_is_strict}
+use Rattle.byte_fields.specs.{stored_cmp}
 use Rattle.version_edits.specs.declared.line.TableLine.{TableLine}
 use Rattle.version_edits.specs.VersionsLemmas.{placed_last}
 use Rattle.version_edits.specs.Versions.{placed, log_is_before, table_is_before, AreInOrder}

@@ -2,9 +2,9 @@
 use Rattle.std.specs.Prelude.{◌≡◌, ℕ, ◌<◌, ◌≤◌, ◌^◌, List, ◌∷◌, ◌++◌, length, All}
 use Rattle.std.specs.List.{flat_map}
 use Rattle.std.specs.Int.{w16, w32, w64, to_be_bytes}
-use Rattle.kv_types.specs.declared.bounds.TheConstants.{MAX_NUMBER, MAX_KEY}
-use Rattle.kv_types.specs.Order.{IsBelow}
-use Rattle.byte_fields.specs.{text_bytes}
+use Rattle.byte_fields.specs.{IsStoredKey, key_bytes}
+use Rattle.byte_fields.specs.Order.{IsBelow}
+use Rattle.kv_types.specs.declared.bounds.TheConstants.{MAX_NUMBER}
 use Rattle.configurations.specs.{IsConfig, config_text}
 use Rattle.version_edits.specs.declared.line.TheConstants.{MAX_NEXT}
 use Rattle.version_edits.specs.declared.line.LogLine.{LogLine}
@@ -30,7 +30,7 @@ table_head_bytes line = line.level ∷ to_be_bytes w64 line.file ++ to_be_bytes 
 
 -- the head of a table's line, and its least and its greatest key
 unfoldable pub table_line_bytes : TableLine → List ℕ
-table_line_bytes line = table_head_bytes line ++ (text_bytes line.least ++ text_bytes line.greatest)
+table_line_bytes line = table_head_bytes line ++ (key_bytes line.least ++ key_bytes line.greatest)
 
 -- the numbers, the ids behind their count, and four lists
 unfoldable pub change_text : Change → List ℕ
@@ -48,8 +48,8 @@ pub record IsTableLine (line : TableLine) : Type 0 where
   pub level : line.level ≤ 6
   pub file : line.file ≤ MAX_NUMBER
   pub bytes : line.length < 2 ^ 63
-  pub short_least : length line.least ≤ MAX_KEY
-  pub short_greatest : length line.greatest ≤ MAX_KEY
+  pub least : IsStoredKey line.least
+  pub greatest : IsStoredKey line.greatest
   pub proper : IsBelow line.greatest line.least → ⊥
 
 -- a log's line names the number of its first batch, which is not 0, and for a log that has no room

@@ -4,10 +4,10 @@ use Rattle.std.specs.Prelude.{Option, Some, None, Result, Ok, Err, if◌then◌e
 use Rattle.std.specs.Global.{Vec}
 use Rattle.std.specs.Int.{w8, w16, w32, w64}
 use Rattle.std.specs.Ordering.{is_lt}
-use Rattle.byte_fields.specs.{Reader, both, mapped, only, counted, number_at, ◌>>=◌, text_at}
+use Rattle.byte_fields.specs.{Reader, both, mapped, only, counted, number_at, ◌>>=◌}
 use Rattle.configurations.specs.{is_config}
-use Rattle.kv_types.specs.declared.bounds.TheConstants.{MAX_NUMBER, MAX_KEY}
-use Rattle.kv_types.specs.{StoredKey, stored_cmp}
+use Rattle.byte_fields.specs.{StoredKey, key_at, stored_cmp}
+use Rattle.kv_types.specs.declared.bounds.TheConstants.{MAX_NUMBER}
 use Rattle.version_edits.specs.declared.error.EditError.{EditError}
 use Rattle.version_edits.specs.declared.error.EditError.TheVariants as edit_error
 use Rattle.version_edits.specs.declared.line.TheConstants.{MAX_NEXT}
@@ -83,7 +83,7 @@ has_range line = not (is_lt (stored_cmp line.greatest line.least))
 unfoldable pub table_line_at : Reader TableLine
 table_line_at bytes =
     only has_range (mapped as_table (both (both level_field (both count_field count_field))
-    (both (text_at MAX_KEY) (text_at MAX_KEY)))) bytes
+    (both key_at key_at))) bytes
 
 -- ---- an edit
 

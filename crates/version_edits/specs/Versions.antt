@@ -5,7 +5,8 @@ use Rattle.std.specs.Prelude.{Option, Some, None, not, ◌&&◌, ◌||◌, nat_l
 use Rattle.std.specs.Prelude.{if◌then◌else◌, IsTrue}
 use Rattle.std.specs.List.{fold, filter, list_all, list_any}
 use Rattle.std.specs.Ordering.{is_lt}
-use Rattle.kv_types.specs.{stored_cmp, is_part}
+use Rattle.byte_fields.specs.{stored_cmp}
+use Rattle.kv_types.specs.{is_part}
 use Rattle.version_edits.specs.declared.line.TheConstants.{MAX_LINES}
 use Rattle.version_edits.specs.declared.line.LogLine.{LogLine}
 use Rattle.version_edits.specs.declared.line.TableName.{TableName}

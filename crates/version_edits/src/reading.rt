@@ -2,8 +2,8 @@
 // behind what it read.
 ghost use Rattle.std.specs.Prelude.{◌≡◌, IfOk, IsErrOf, option_map};
 ghost use Rattle.std.specs.Int.{w16, w32, w64};
-ghost use Rattle.kv_types.specs.declared.bounds.TheConstants.{MAX_KEY};
-ghost use Rattle.byte_fields.specs.{text_at, many, number_at};
+ghost use Rattle.byte_fields.specs.{key_at};
+ghost use Rattle.byte_fields.specs.{many, number_at};
 ghost use Rattle.version_edits.specs.Versions.{Change};
 ghost use Rattle.version_edits.specs.Edits.{IsChange, change_text};
 ghost use Rattle.version_edits.specs.Reading.{ReadsChangeField, ReadsChange, items_read};
@@ -15,10 +15,9 @@ ghost use Rattle.version_edits.specs.Reading.{logs_at, names_at, tables_at};
 ghost use Rattle.version_edits.specs.Reading.{change_front, change_of};
 
 use crate::{EditError, LogLine, MAX_NEXT, TableLine, TableName, VersionEdit};
-use byte_fields::{read_u16, read_u32, read_u64};
+use byte_fields::{StoredKey, read_u16, read_u32, read_u64};
 use configurations::Config;
 use configurations::laws::test_decides_config;
-use kv_types::StoredKey;
 use kv_types::bounds::MAX_NUMBER;
 use std::alloc::{AllocError, Global};
 
@@ -119,7 +118,7 @@ fn level_of(bytes: &mut &[u8]) -> Result<u8, EditError>
 }
 
 fn key_of(alloc: Global, bytes: &mut &[u8]) -> Result<StoredKey, EditError>
-    ensures { ReadsChangeField result bytes.new.now (text_at MAX_KEY bytes.old.now) }
+    ensures { ReadsChangeField result bytes.new.now (key_at bytes.old.now) }
 {
     match StoredKey::read_from(alloc, bytes)? {
         Some((read, rest)) => {

@@ -2,4 +2,4 @@ use Rattle.chain_model.proofs.WorldGrowth.{only_grows}
 use Rattle.chain_model.proofs.only_grows.Goals as goal
 
 pub returns : goal.returns
-returns g c = λ cs events later. only_grows cs events later
+returns c = λ cs events later. only_grows cs events later

@@ -2,4 +2,4 @@ use Rattle.chain_model.proofs.Outcomes.{run_is_outcomes}
 use Rattle.chain_model.proofs.run_is_outcomes.Goals as goal
 
 pub returns : goal.returns
-returns g c = λ cs events. run_is_outcomes cs events
+returns c = λ cs events. run_is_outcomes cs events

@@ -20,6 +20,7 @@ pub fn refusal_name(refusal: Refusal) -> &'static str
         Refusal::TooManySnapshots => "6 TooManySnapshots",
         Refusal::Removed => "7 Removed",
         Refusal::Exhausted => "8 Exhausted",
+        Refusal::OldRequest => "9 OldRequest",
     }
 }
 
@@ -36,6 +37,7 @@ pub fn error_name(error: KvError) -> &'static str
         KvError::BadBytes => "6 BadBytes",
         KvError::Memory => "7 Memory",
         KvError::BadLimit => "8 BadLimit",
+        KvError::BadMark => "9 BadMark",
     }
 }
 
@@ -68,6 +70,7 @@ pub fn cause_name(cause: Stop) -> &'static str
         Stop::Damaged => "damaged",
         Stop::Memory => "memory",
         Stop::NotCreated => "not created",
+        Stop::OldFormat => "old format",
     }
 }
 

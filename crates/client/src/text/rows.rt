@@ -14,7 +14,7 @@ impl fmt::Display for RowText<'_> {
     ghost output = { λ it. Some (printed_row it.0.now) };
 
     fn fmt<W: fmt::Write>(&self, f: &mut fmt::Formatter<W>) -> fmt::Result {
-        let key = Spelled(self.0.key().as_bytes());
+        let key = Spelled(self.0.key());
         let value = Spelled(self.0.value());
         write!(f, "row {key}={value}")
     }

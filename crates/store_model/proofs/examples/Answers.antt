@@ -5,10 +5,10 @@ use Rattle.store_model.proofs.ExamplePlans.{plan_examples}
 use Rattle.store_model.proofs.examples.Goals as goal
 
 pub returns-clause-store : goal.returns-clause-store
-returns-clause-store c = store_examples c.views_are_maps.ensures
+returns-clause-store c = store_examples c.views_are_maps.ensures.stored
 
 pub returns-clause-merge : goal.returns-clause-merge
-returns-clause-merge c = merge_examples c.views_are_maps.ensures
+returns-clause-merge c = merge_examples c.views_are_maps.ensures.stored
 
 pub returns-clause-plans : goal.returns-clause-plans
 returns-clause-plans c = plan_examples

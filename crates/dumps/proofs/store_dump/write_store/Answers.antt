@@ -120,7 +120,7 @@ returns-clause-device g c =
     read_as g.D.Disk (neither answers not_device)
     (rw c.set_committed.ensures.disk at c.in_ok-count.ensures.device)
 
--- no refusal says that nothing was created
+-- no refusal says that nothing was created, or in the old format
 pub returns-in_err-write_numbers-clause-created : goal.returns-in_err-write_numbers-clause-created
 returns-in_err-write_numbers-clause-created g c =
     let created : IsOfOpened c.in_err-write_numbers.field-0.0 =

@@ -62,7 +62,7 @@ returns-in-NotCreated-clause-opens g c = λ honest.
     c.created_if_free.result c.in-NotCreated.is (c.requires honest)
     (λ facts list files. (c.in-Err.ensures.opened facts list honest).whole files)
     none c.version_is_one.ensures.lawful c.version_is_one.ensures.created
-    c.reads_are_outcomes.ensures
+    c.version_is_one.ensures.old c.reads_are_outcomes.ensures
     (λ facts list facts' list'. c.in-Err.ensures.any_moment facts list facts' list' honest)
     (c.created_if_free.ensures.created (c.in-Err.ensures.kept.honest.1 honest))
     c.created_if_free.ensures.refused
@@ -73,7 +73,7 @@ returns-in_default g c = record {
   kept = kept_as g.D.Disk (store_told c.in-Err.e c.from.result c.from.ensures) (λ a b owned. tt)
       c.in-Err.ensures.kept;
   opens = λ honest.
-      refused_opens g.D.Disk c.args.disk c.in-Err.disk
+      refused_opens g.D.Disk c.version_is_one.ensures.old c.args.disk c.in-Err.disk
       (contents (g.D.Disk.state c.args.disk)) c.in-Err.e c.from.result c.from.ensures
       (λ facts list files. (c.in-Err.ensures.opened facts list honest).whole files)
       (c.in-Err.ensures.told honest) (λ same only. c.in_default.not-NotCreated same)

@@ -169,9 +169,10 @@ pub returns-in_default : goal.returns-in_default
 returns-in_default g c = record {
   kept = kept_as g.D.Disk (device_opened c.in-Err.e c.from.result c.from.ensures)
       (λ a b spares. tt) c.in-Err.ensures.reads.kept;
-  started = λ x n honest read. inl (env_opened c.version_is_one.ensures.created c.in-Err.e
-      c.from.result (contents (g.D.Disk.state c.args.disk)) x n c.from.ensures
-      (c.in-Err.ensures.told honest) read);
+  started = λ x n honest read. inl (env_opened c.version_is_one.ensures.created
+      c.version_is_one.ensures.old c.in-Err.e c.from.result
+      (contents (g.D.Disk.state c.args.disk)) x n c.from.ensures (c.in-Err.ensures.told honest)
+      read);
   told = λ honest. slots_explain c.args.configs.now c.args.id c.in-Err.e c.from.result
       (contents (g.D.Disk.state c.args.disk)) c.from.ensures
       (λ same. c.in_default.not-NotCreated same) (c.in-Err.ensures.told honest);

@@ -6,6 +6,7 @@ pub returns-clause-batches : goal.returns-clause-batches
 returns-clause-batches c = record {
   spelled = refl;
   deletion = refl;
+  marked_put = refl;
   beginning = inr (refl, tt);
   difference = inl (omega arith);
   last = refl;

@@ -1,5 +1,8 @@
 use Rattle.kv_types.proofs.ViewLaws as laws
 use Rattle.kv_types.proofs.laws.views_are_maps.Goals as goal
 
-pub returns : goal.returns
-returns c = laws.views_are_maps
+pub returns-clause-stored : goal.returns-clause-stored
+returns-clause-stored c = laws.views_are_stored
+
+pub returns-clause-rows : goal.returns-clause-rows
+returns-clause-rows c = laws.views_are_maps

@@ -1,6 +1,7 @@
 use Rattle.std.proofs.Common.{◌≡◌, ◌+◌, ◌*◌, ◌≤◌, length, take, All}
 use Rattle.std.specs.List.{flat_map}
-use Rattle.kv_types.specs.declared.bounds.TheConstants.{MAX_KEY, MAX_VALUE}
+use Rattle.byte_fields.specs.declared.stored_key.TheConstants.{MAX_KEY}
+use Rattle.kv_types.specs.declared.bounds.TheConstants.{MAX_VALUE}
 use Rattle.kv_types.specs.Spelling.{edit_bytes, IsEdit}
 use Rattle.kv_types.proofs.writing.spelled_len.Given as goal
 

@@ -1,4 +1,4 @@
-use Rattle.lab.proofs.FaultMarks.{faults_told}
+use Rattle.lab.proofs.FaultIncidents.{faults_told}
 use Rattle.lab.proofs.laws.faults_are_determined.Goals as goal
 
 pub returns : goal.returns

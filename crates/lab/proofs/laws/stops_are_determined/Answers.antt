@@ -1,4 +1,4 @@
-use Rattle.lab.proofs.FaultMarks.{stops_told}
+use Rattle.lab.proofs.FaultIncidents.{stops_told}
 use Rattle.lab.proofs.laws.stops_are_determined.Goals as goal
 
 pub returns : goal.returns

@@ -6,7 +6,7 @@ use Rattle.lab.proofs.Dispatching.{holding, ready_down}
 use Rattle.lab.proofs.Rests.{rests_as}
 use Rattle.lab.proofs.node_state.crash.Goals as goal
 
--- the latest mark is the crash
+-- the latest incident is the crash
 pub returns : goal.returns
 returns g c =
     let e = c.crash.ensures in
@@ -30,12 +30,12 @@ returns g c =
             | inl before ↦ inl (is, before, refl)
             | inr behind ↦ inr (is, behind, refl)
           ];
-      marked = λ honest. record {
-        marked = e.marks honest;
+      occurred = λ honest. record {
+        occurred = e.incidents honest;
         last = subst (λ (l : List State). IsLastLeft l (g.D.Disk.state left))
             (sym (e.past honest).2) (λ file. sym ((e.past honest).1 file));
       };
-      forgets = λ honest. ap fault_of (e.marks honest);
+      forgets = λ honest. ap fault_of (e.incidents honest);
       limits = λ limits. tt;
       count = e.count;
     })

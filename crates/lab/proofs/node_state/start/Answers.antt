@@ -11,7 +11,7 @@ use Rattle.lab.specs.Outcomes.{Starts, Fails}
 use Rattle.lab.proofs.Dispatches.{counts_same}
 use Rattle.lab.proofs.Dispatching.{each_answer, halted, halts_so, holding, honest_left, ready_up}
 use Rattle.lab.proofs.Dispatching.{in_disk_box, into_box}
-use Rattle.lab.proofs.Faults.{grown_since, marked_so, same_state, stays_so}
+use Rattle.lab.proofs.Faults.{grown_since, occurred_so, same_state, stays_so}
 use Rattle.lab.proofs.node_state.start.Goals as goal
 
 pub returns-in_ok-new-in-Ok : goal.returns-in_ok-new-in-Ok
@@ -62,11 +62,11 @@ returns-in_ok-new-in-Ok g c =
           (λ left now. inl (represents left now)) in
           grown_since g.D.Disk _ own c.arm.new.self _ _ armed.past leaves
           c.arm-in-Ok.ensures.armed.past;
-      marked = λ honest.
-          inr (marked_so g.D.Disk c.args.fault own false c.arm.new.self _ _ _ _ _
+      occurred = λ honest.
+          inr (occurred_so g.D.Disk c.args.fault own false c.arm.new.self _ _ _ _ _
           c.arm.ensures
           c.in-Ok.ensures.kept c.arm-in-Ok.ensures.armed honest);
-      forgets = λ honest unarmed. ap fault_of (c.arm-in-Ok.ensures.armed.marks
+      forgets = λ honest unarmed. ap fault_of (c.arm-in-Ok.ensures.armed.incidents
           (c.in-Ok.ensures.kept.honest.1 (c.arm.ensures.honest.1 honest)));
       limits = λ has. c.arm-in-Ok.ensures.limits ∙ c.in-Ok.ensures.begins.limits;
     }))

@@ -12,7 +12,7 @@ use Rattle.lab.specs.declared.node_state.NodeState.TheVariants.{Up}
 use Rattle.lab.specs.Outcomes.{Answers, Ends}
 use Rattle.lab.proofs.Dispatches.{counts_same}
 use Rattle.lab.proofs.Dispatching.{each_answer, halted, halts_so, holding, in_box}
-use Rattle.lab.proofs.Faults.{grown_since, marked_so, same_state, stays_so}
+use Rattle.lab.proofs.Faults.{grown_since, occurred_so, same_state, stays_so}
 use Rattle.lab.proofs.node_state.step.Goals as goal
 
 pub returns-in-Ok : goal.returns-in-Ok
@@ -49,11 +49,11 @@ returns-in-Ok g c = λ limits.
           let ended = c.in-Ok.ensures.ends x n (c.arm.ensures.refines x n r) in
           grown_since g.D.Disk _ (disk_of own) (disk_of c.arm.new.self) _ _
           c.arm.ensures.armed.past ended.any_moment c.arm-in-Ok.ensures.armed.past;
-      marked = λ honest.
-          inr (marked_so g.D.Disk c.args.fault (disk_of own) false
+      occurred = λ honest.
+          inr (occurred_so g.D.Disk c.args.fault (disk_of own) false
           (disk_of c.arm.new.self) _ _ _ _ _
           c.arm.ensures.armed c.in-Ok.ensures.kept.disk c.arm-in-Ok.ensures.armed honest);
-      forgets = λ honest ignored. ap fault_of (c.arm-in-Ok.ensures.armed.marks
+      forgets = λ honest ignored. ap fault_of (c.arm-in-Ok.ensures.armed.incidents
           (c.in-Ok.ensures.kept.disk.honest.1 (c.arm.ensures.armed.honest.1 honest)));
       limits = search rules;
     })

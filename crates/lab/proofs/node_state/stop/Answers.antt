@@ -1,6 +1,6 @@
 use Rattle.std.proofs.Common.{[], ◌∷◌, ◌∙◌, ℕ, ap, length, refl, sym, subst, inl, inr}
-use Rattle.disk.specs.declared.Mark.TheVariants.{Crashed}
-use Rattle.lab.specs.Disks.{IsMarkedSo}
+use Rattle.disk.specs.declared.Incident.TheVariants.{Crashed}
+use Rattle.lab.specs.Disks.{HasIncidents}
 use Rattle.chain_model.specs.{stopped, silent}
 use Rattle.lab.specs.SimNodes.{StateRefines, disk_in}
 use Rattle.lab.specs.Outcomes.{HasCrashed, Stops}
@@ -41,14 +41,14 @@ returns g c = λ limits.
       explains = λ honest starts cause stops. absurd cc;
       grows = λ x n r. crash_grows g.D.Disk junk (disk_of node.value) (disk_of node.value) new
           (crashed r.honest) ([], refl);
-      marked = λ honest.
-          let so = e.marked (subst g.D.Disk.is_honest same honest) in
-          let before = subst (λ d. IsMarkedSo g.D.Disk.state g.D.Disk.past g.D.Disk.marks
-          ((length (g.D.Disk.past d), Crashed junk) ∷ g.D.Disk.marks d) (disk_in new))
+      occurred = λ honest.
+          let so = e.occurred (subst g.D.Disk.is_honest same honest) in
+          let before = subst (λ d. HasIncidents g.D.Disk.state g.D.Disk.past g.D.Disk.incidents
+          ((length (g.D.Disk.past d), Crashed junk) ∷ g.D.Disk.incidents d) (disk_in new))
           left so in
           inr (record {
-            marked = before.marked ∙ ap (λ (n : ℕ). (n, Crashed junk)
-                ∷ g.D.Disk.marks (disk_of node.value))
+            occurred = before.occurred ∙ ap (λ (n : ℕ). (n, Crashed junk)
+                ∷ g.D.Disk.incidents (disk_of node.value))
                 (ap length (before_is g.D.Disk c.args.fault (disk_of node.value) junk
                 (disk_of node.value) new (crashed honest)));
             last = before.last;

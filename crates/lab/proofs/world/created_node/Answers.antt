@@ -2,8 +2,8 @@ use Rattle.std.proofs.Common.{arith}
 use Rattle.std.proofs.lemmas.Grind.{common_steps}
 use Rattle.std.proofs.Common.{◌≡◌, None, ◌∷◌, ◌∙◌, ℕ, ap, ap₂, length, subst, sym}
 use Rattle.chain_model.specs.{created}
-use Rattle.disk.specs.declared.Mark.TheVariants.{Armed}
-use Rattle.disk.specs.{Marks, Slots}
+use Rattle.disk.specs.declared.Incident.TheVariants.{Armed}
+use Rattle.disk.specs.{Incidents, Slots}
 use Rattle.node.specs.declared.Node.{Node}
 use Rattle.node.specs.{NodeRefines, disk_of}
 use Rattle.lab.specs.declared.node_state.NodeState.{NodeState}
@@ -32,9 +32,9 @@ returns-in_ok-new-in-Ok-clause-created c =
           StateRefines in_memory.is_honest in_memory.state m c.args.id n) up refines);
       count = ap (λ (d : Slots). d.failures) (sym disk) ∙ (armed.count
           ∙ (kept.count (λ fails. absurd fails) ∙ c.new-disk.ensures.count));
-      marked = subst (λ (d : Slots). IsNewDisk in_memory d) disk (record {
-        marked = armed.marks tt ∙ ap₂ (λ (n : ℕ) (l : Marks). (n, Armed None) ∷ l)
-            (ap length (sym armed.past)) (kept.fault ∙ c.new-disk.ensures.marks);
+      occurred = subst (λ (d : Slots). IsNewDisk in_memory d) disk (record {
+        occurred = armed.incidents tt ∙ ap₂ (λ (n : ℕ) (l : Incidents). (n, Armed None) ∷ l)
+            (ap length (sym armed.past)) (kept.fault ∙ c.new-disk.ensures.incidents);
         last = armed.last tt;
       });
     }

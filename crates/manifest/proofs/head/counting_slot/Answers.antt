@@ -2,7 +2,7 @@ use Rattle.std.proofs.Common.{Option, List, ℕ, ap, inl, refl, subst, ◌∙◌
 use Rattle.disk.specs.{seen}
 use Rattle.disk.specs.StillLemmas.{still_more}
 use Rattle.manifest.specs.Heads.{HeadIs}
-use Rattle.manifest.proofs.Heads.{or_else}
+use Rattle.manifest.proofs.Heads.{counted_by}
 use Rattle.manifest.proofs.head.counting_slot.Goals as goal
 
 -- reads leave nothing new
@@ -24,12 +24,13 @@ returns-clause-reads g c = record {
       (c.head_of-2.ensures.reads.still (c.head_of.ensures.reads.kept.honest.1 honest));
 }
 
--- the second head is that of the disk before the first was read
+-- which slot counts by the heads, of which the second is that of the disk before the first was read
 pub returns-clause-counts : goal.returns-clause-counts
 returns-clause-counts g c = λ left honest read.
-    let first = c.in_ok-first.ensures.is honest in
-    let second = c.in_ok-second.ensures.is (c.head_of.ensures.reads.kept.honest.1 honest) in
-    let same = ap seen (c.head_of.ensures.reads.kept.files honest 2) ∙ read 2 (inr refl) in
-    or_else _ _ _ c.counting.result (c.counting.ensures.counts left
-    (subst (λ (file : Option (List ℕ)). HeadIs c.in_ok-first.first file) (read 1 (inl refl)) first)
-    (subst (λ (file : Option (List ℕ)). HeadIs c.in_ok-second.second file) same second))
+    let first = subst (λ (file : Option (List ℕ)). HeadIs c.in_ok-first.first file)
+    (read 1 (inl refl)) (c.in_ok-first.ensures.is honest) in
+    let second = subst (λ (file : Option (List ℕ)). HeadIs c.in_ok-second.second file)
+    (ap seen (c.head_of.ensures.reads.kept.files honest 2) ∙ read 2 (inr refl))
+    (c.in_ok-second.ensures.is (c.head_of.ensures.reads.kept.honest.1 honest)) in
+    counted_by left c.in_ok-first.first c.in_ok-second.second first second c.counting.result
+    c.counting.ensures

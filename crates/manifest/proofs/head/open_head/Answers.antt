@@ -1,15 +1,18 @@
-use Rattle.std.proofs.Common.{◌≡◌, List, Some, arith, subst, ℕ}
-use Rattle.std.specs.Int.{w64}
-use Rattle.byte_fields.specs.{number_at}
-use Rattle.manifest.proofs.Heads.{open_head_is}
+use Rattle.std.proofs.Common.{arith}
+use Rattle.manifest.proofs.Heads.{new_head, old_head}
 use Rattle.manifest.proofs.head.open_head.Goals as goal
 
--- the bytes behind the gate are the generation and the id
+-- in the place of format 1's id is one
+pub returns-then-old_id-ne0 : goal.returns-then-old_id-ne0
+returns-then-old_id-ne0 c =
+    old_head c.args.behind.now c.in_ok-generation.behind.now c.in_ok-old_id.behind.now
+    c.in_ok-generation.generation c.in_ok-old_id.old_id (λ i. omega (arith, c.type_inv.behind i))
+    c.in_ok-generation.ensures c.in_ok-old_id.ensures c.if-old_id-ne0.true
+
+-- or 0, and the id is behind it
 pub returns : goal.returns
 returns c =
-    open_head_is c.args.bytes.now c.in_ok-generation.generation c.in_ok-id.id
-    c.in_ok-generation.rest.now c.in_ok-id._rest.now (λ i. omega (arith, c.type_inv.bytes i))
-    c.requires c.if-bytes-ne1.false
-    (subst (λ (l : List ℕ). number_at w64 l
-    ≡ Some (c.in_ok-generation.generation, c.in_ok-generation.rest.now)) c.split_at.ensures.back
-    c.in_ok-generation.ensures) c.in_ok-id.ensures
+    new_head c.args.behind.now c.in_ok-generation.behind.now c.in_ok-old_id.behind.now
+    c.in_ok-generation.generation c.in_ok-old_id.old_id (λ i. omega (arith, c.type_inv.behind i))
+    c.in_ok-generation.ensures c.in_ok-old_id.ensures c.if-old_id-ne0.false
+    c.in_ok-id.id c.in_ok-id._log.now c.in_ok-id.ensures

@@ -1,5 +1,5 @@
 use Rattle.manifest.proofs.VersionIsOne.{one_version, versions_are_lawful}
-use Rattle.manifest.proofs.Opened.{were_created}
+use Rattle.manifest.proofs.Opened.{old_stores_are_apart, were_created}
 use Rattle.manifest.proofs.laws.version_is_one.Goals as goal
 
 pub returns-clause-one : goal.returns-clause-one
@@ -10,3 +10,6 @@ returns-clause-lawful c = versions_are_lawful c.histories_are_lawful.ensures
 
 pub returns-clause-created : goal.returns-clause-created
 returns-clause-created c = were_created
+
+pub returns-clause-old : goal.returns-clause-old
+returns-clause-old c = old_stores_are_apart

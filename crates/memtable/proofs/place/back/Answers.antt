@@ -1,7 +1,7 @@
 use Rattle.std.proofs.Common.{subst, sym, refl}
 use Rattle.std.specs.BTreeMap.Range.{IsUpToEnd}
 use Rattle.std.specs.Range.Bound.{bound_map}
-use Rattle.kv_types.specs.{stored_cmp}
+use Rattle.byte_fields.specs.{stored_cmp}
 use Rattle.merge_iter.specs.declared.direction.Direction.TheVariants.{Backward}
 use Rattle.merge_iter.specs.{IsFirst}
 use Rattle.memtable.specs.Maps.{MapHolds}

@@ -1,7 +1,7 @@
 use Rattle.std.proofs.Common.{false, ◌≡◌, ◌<◌, refl, length, arith, rules, ◌∙◌, subst, Err}
 use Rattle.std.proofs.lemmas.Result.{err_from_is_err_and}
 use Rattle.std.proofs.lemmas.Option.{slice_get_read, slice_get_within}
-use Rattle.kv_types.specs.{lent_key}
+use Rattle.byte_fields.specs.{lent_key}
 use Rattle.merge_iter.specs.declared.direction.Direction.TheVariants.{Forward}
 use Rattle.merge_iter.specs.Order.{spot}
 use Rattle.merge_iter.specs.Positions.{At}

@@ -1,5 +1,5 @@
 use Rattle.std.proofs.Common.{false, ◌≡◌}
-use Rattle.kv_types.specs.{lent_key}
+use Rattle.byte_fields.specs.{lent_key}
 use Rattle.merge_iter.specs.declared.direction.Direction.TheVariants.{Forward}
 use Rattle.merge_iter.specs.Order.{spot}
 use Rattle.merge_iter.specs.Positions.{At}

@@ -1,5 +1,5 @@
 use Rattle.merge_iter.proofs.Walked.{spot_early, spot_late}
-use Rattle.kv_types.specs.{lent_key}
+use Rattle.byte_fields.specs.{lent_key}
 use Rattle.merge_iter.proofs.turns.is_early.Goals as goal
 
 pub returns-then-valid-clause-early : goal.returns-then-valid-clause-early

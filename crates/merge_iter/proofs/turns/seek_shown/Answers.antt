@@ -16,7 +16,8 @@ use Rattle.merge_iter.proofs.Shifts.{forward_fits, shifts_behind}
 use Rattle.merge_iter.proofs.Walked.{flip, on_row}
 use Rattle.merge_iter.specs.Order.{EntryPrecedes}
 use Rattle.merge_iter.specs.Positions.{IsFirst, IfOn, WalkMeets}
-use Rattle.kv_types.specs.{IsShown, lent_key}
+use Rattle.byte_fields.specs.{lent_key}
+use Rattle.kv_types.specs.{IsShown}
 use Rattle.merge_iter.specs.ShownEntries.{view_position}
 use Rattle.merge_iter.proofs.turns.seek_shown.Goals as goal
 

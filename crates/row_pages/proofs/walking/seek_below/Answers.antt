@@ -1,4 +1,4 @@
-use Rattle.kv_types.specs.{lent_key}
+use Rattle.byte_fields.specs.{lent_key}
 use Rattle.row_pages.proofs.Starts.{on_ok, sought, stepped_back, last_below}
 use Rattle.row_pages.proofs.walking.seek_below.Goals as goal
 

@@ -1,6 +1,6 @@
 use Rattle.std.proofs.Common.{◌≡◌, ◌∙◌, ap, sym, true, false}
 use Rattle.std.specs.Rc.{rc_slice_items}
-use Rattle.kv_types.specs.{lent_key}
+use Rattle.byte_fields.specs.{lent_key}
 use Rattle.merge_iter.specs.{spot}
 use Rattle.table_files.specs.{entry_read}
 use Rattle.table_format.specs.{lent_entry}

@@ -1,6 +1,6 @@
 use Rattle.std.proofs.Common.{rules}
 use Rattle.std.proofs.lemmas.List.Sorted.{IsPartitionPoint-from_clause}
-use Rattle.kv_types.specs.{lent_key}
+use Rattle.byte_fields.specs.{lent_key}
 use Rattle.merge_iter.specs.{spot}
 use Rattle.sorted_table.proofs.LinesLemmas.{ends_early, line_place_by, parted}
 use Rattle.sorted_table.proofs.lines.line_place.Goals as goal

@@ -1,6 +1,6 @@
 use Rattle.std.proofs.Common.{rules}
 use Rattle.std.proofs.lemmas.List.Sorted.{IsPartitionPoint-from_clause}
-use Rattle.kv_types.specs.{lent_key}
+use Rattle.byte_fields.specs.{lent_key}
 use Rattle.merge_iter.specs.{spot}
 use Rattle.sorted_table.proofs.StartSearches.{is_early_start, partitioned, splits}
 use Rattle.sorted_table.proofs.starts.count_before.Goals as goal

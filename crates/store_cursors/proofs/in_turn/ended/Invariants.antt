@@ -1,6 +1,7 @@
 use Rattle.std.proofs.Common.{◌-◌, ◌≡◌, ◌<◌, ◌≤◌, ℕ, vec_len, Some}
 use Rattle.std.specs.List.{slice_get}
-use Rattle.kv_types.specs.{Entry, lent_key}
+use Rattle.byte_fields.specs.{lent_key}
+use Rattle.kv_types.specs.{Entry}
 use Rattle.merge_iter.specs.{EachChild, EntryPrecedes, spot}
 use Rattle.merge_iter.specs.declared.Direction.TheVariants.{Forward}
 use Rattle.store_cursors.specs.Concatenation.{AreConcatenated}

@@ -81,6 +81,7 @@ returns-in_err-parts-clause-opens g c = record {
       refuses c.from_residual-in_err-parts.result (FilesOpenAs left) (λ e. OpeningRefusal e left)
       c.from_residual-in_err-parts.ensures.1 (end_explained c.in_err-parts.field-0.0 left
       c.in_err-parts.ensures.reads.causes (c.version_is_one.ensures.created _ left had)
+      (λ old. (c.version_is_one.ensures.old left old).1 _ had)
       (λ facts count opens.
       let named : NodeVersion = record { id = facts.id; version = opens.version } in
       let is = c.version_is_one.ensures.lawful named left opens.manifest in

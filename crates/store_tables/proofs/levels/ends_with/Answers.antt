@@ -1,7 +1,7 @@
 use Rattle.std.proofs.Common.{◌≡◌, ◌∙◌, Option, Some, None, ap, sym}
 use Rattle.std.proofs.lemmas.Slice.Eq.{bytes_eq-Decides}
 use Rattle.byte_fields.specs.FieldsLemmas.{some_is}
-use Rattle.kv_types.specs.{StoredKey}
+use Rattle.byte_fields.specs.{StoredKey}
 use Rattle.store_tables.proofs.levels.ends_with.Goals as goal
 
 none_is : (key : StoredKey) (of : Option StoredKey) → None ≡ of → of ≡ Some key → ⊥

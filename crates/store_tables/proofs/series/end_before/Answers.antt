@@ -1,5 +1,5 @@
 use Rattle.sorted_table.specs.contracts.table_cursor.TableCursorCursor.TheImpl as table
-use Rattle.kv_types.specs.{lent_key}
+use Rattle.byte_fields.specs.{lent_key}
 use Rattle.store_tables.proofs.TableSeries.{all_precede}
 use Rattle.store_tables.proofs.series.end_before.Goals as goal
 

@@ -1,11 +1,22 @@
-use Rattle.std.proofs.Common.{None, refl, rules, subst}
-use Rattle.disk.specs.{Absent}
+use Rattle.std.proofs.Common.{◌≡◌, ℕ, None, refl, rules, subst}
+use Rattle.disk.specs.declared.Disk.{Ghosts}
+use Rattle.disk.specs.{Absent, IsSameBut, KeepsDisk, WritesInto}
+use Rattle.disk.specs.KeepingLemmas.{answered}
 use Rattle.memtable.specs.{TableHolds}
 use Rattle.store_tables.specs.Errors.{IsEnd}
 use Rattle.store_tables.specs.TableWriting.{IsRoomAnswer}
-use Rattle.store_tables.specs.RefusalLemmas.{refuses}
-use Rattle.disk.specs.WritesLemmas.{moments_join}
+use Rattle.store_tables.specs.RefusalLemmas.{passed_on, refuses}
+use Rattle.disk.specs.WritesLemmas.{moments_join, writes_as, writes_behind}
 use Rattle.store_tables.proofs.table_writing.write_table.Goals as goal
+
+-- calls on a file that did not fail, and others on it behind them that need no cause
+kept_join : {D : Type 0} (g : Ghosts D) {own file : ℕ} → own ≡ file → {old mid new : D}
+    {first cause told other : Type 0} → WritesInto g own old mid first cause → (first → ⊥)
+    → WritesInto g file mid new told ⊥ → KeepsDisk g old new told other (IsSameBut file)
+kept_join g {file = file} is {old = old} {mid = mid} {first = first} {cause = cause} before works w
+    =
+    let same = subst (λ (f : ℕ). WritesInto g f old mid first cause) is before in
+    (writes_behind g file works (λ never. absurd never) same w).kept
 
 -- ---- the table is finished
 
@@ -27,7 +38,12 @@ returns-then-branch-clause-writes g c = record {
 
 pub returns-in_err-remove_file-clause-writes : goal.returns-in_err-remove_file-clause-writes
 returns-in_err-remove_file-clause-writes g c = record {
-  kept = search rules;
+  kept = kept_join g.D.Disk c.new-builder.ensures.file c.add_memtable.ensures.writes
+      (answered c.add_memtable.result c.in_ok-add_memtable.was)
+      (writes_as g.D.Disk c.args.file
+      (passed_on c.remove_file.result c.in_err-remove_file.field-0.0
+      c.from_residual-in_err-remove_file.result c.in_err-remove_file.was
+      c.from_residual-in_err-remove_file.ensures.1) (λ never. never) c.remove_file.ensures.writes);
   any_moment = moments_join g.D.Disk c.new-builder.ensures.file c.add_memtable.ensures.writes
       c.remove_file.ensures.writes;
 }

@@ -3,7 +3,8 @@ use Rattle.std.specs.Ordering.{is_lt, ordering_then, nat_cmp}
 use Rattle.merge_iter.specs.OrderLemmas.{less_iff}
 use Rattle.merge_iter.specs.{EntryPrecedes, entry_cmp}
 use Rattle.merge_iter.specs.declared.Direction.TheVariants.{Forward}
-use Rattle.kv_types.specs.{Entry, StoredKey, stored_cmp}
+use Rattle.byte_fields.specs.{StoredKey, stored_cmp}
+use Rattle.kv_types.specs.{Entry}
 use Rattle.table_format.proofs.IndexLoops.{last_line}
 use Rattle.table_format.specs.Parts.{end_spot}
 use Rattle.table_format.specs.Reading.{lent_line}

@@ -20,7 +20,7 @@ invariant_of-self c =
     c.committed_with-self-inside.result pending next
     (c.committed_with-self-inside.ensures
     ∙ ap (λ (v : Core). if is_tail v.ids v.id then number else v.committed) (sym c.self.view_is))
-    (raise 0 old number pending c.self.invariant.pending (omega (arith, next)))
+    (raise (1, 0) old number pending c.self.invariant.pending (omega (arith, next)))
 
 pub returns-clause-after : goal.returns-clause-after
 returns-clause-after c = λ n batch is.

@@ -3,6 +3,7 @@ use Rattle.std.proofs.Common.{arith, rules}
 use Rattle.std.specs.Prelude.{if◌then◌else◌}
 use Rattle.configurations.specs.{is_tail}
 use Rattle.chain_model.specs.{accept}
+use Rattle.chain_model.specs.RulesLemmas.{prior_least}
 use Rattle.chain_core.specs.declared.pending_submit.PendingSubmit.{PendingSubmit}
 use Rattle.chain_core.specs.States.{Core, IsInOrder, committed_responses}
 use Rattle.chain_core.specs.Queues.{front, behind}
@@ -21,10 +22,12 @@ invariant_of-self-2 c =
     let pending = c.self.inside.pending.items in
     let next : number ≡ suc old =
     next_of c.next.result _ old old number c.next.ensures c.unwrap-number.ensures refl in
-    let rises = push_in_order 0 old pending asked c.self.invariant.pending (omega arith) next in
-    let waits : IsInOrder 0 number c.forget_due.new.pending.items =
+    let rises = push_in_order (1, 0) old pending asked c.self.invariant.pending
+    (prior_least (number, c.args.request) (omega (arith, next))) next in
+    let waits : IsInOrder (1, 0) number c.forget_due.new.pending.items =
     rw (c.forget_due.ensures, c.in_ok-push_back.ensures.items)
-    (behind_in_order 0 number c.committed_with-committed.result (pending ++ asked ∷ []) rises) in
+    (behind_in_order (1, 0) number c.committed_with-committed.result (pending ++ asked ∷ []) rises)
+    in
     let commits : c.committed_with-committed.result
     ≡ (if is_tail c.self.inside.config c.self.inside.id then number
     else c.self.inside.committed) =
@@ -44,7 +47,7 @@ returns c = record {
       let pending = c.forget_due.new.pending.items in
       let due = c.in-Ok.due in
       let same = c.self.view_is in
-      let ordered = subst (λ (v : Core). IsInOrder 0 v.count v.pending) same
+      let ordered = subst (λ (v : Core). IsInOrder (1, 0) v.count v.pending) same
       c.self.invariant.pending in
       let next : number ≡ suc now.count =
       next_of c.next.result _ c.self.inside.count now.count number c.next.ensures

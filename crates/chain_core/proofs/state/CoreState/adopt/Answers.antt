@@ -23,9 +23,9 @@ invariant_of-self c =
     ∙ ap (λ (b : Bool). if b then [] else old) (ap not c.has-stays.ensures)
     ∙ kept_where stays old in
     let rises = where_in_order stays inside.count old c.self.invariant.pending in
-    let waits : IsInOrder 0 inside.count c.forget_due.new.pending.items =
+    let waits : IsInOrder (1, 0) inside.count c.forget_due.new.pending.items =
     rw (c.forget_due.ensures, left)
-    (behind_in_order 0 inside.count committed (if stays then old else []) rises) in
+    (behind_in_order (1, 0) inside.count committed (if stays then old else []) rises) in
     ordered_adopted (core_value inside) c.self.invariant c.args.epoch committed c.args.config
     c.forget_due.new.pending.items
     (c.committed_under-committed.ensures
@@ -42,7 +42,7 @@ returns c = record {
       let pending = c.forget_due.new.pending.items in
       let due = c.in_ok-due.due in
       let same = c.self.view_is in
-      let ordered = subst (λ (v : Core). IsInOrder 0 v.count v.pending) same
+      let ordered = subst (λ (v : Core). IsInOrder (1, 0) v.count v.pending) same
       c.self.invariant.pending in
       let stays = has ids now.id in
       let waits = if stays then now.pending else [] in

@@ -14,8 +14,8 @@ invariant_of-self c =
     let inside = c.self.inside in
     let committed = c.greater-committed.result in
     let pending = c.forget_due.new.pending.items in
-    let waits : IsInOrder 0 inside.count pending = rw c.forget_due.ensures
-    (behind_in_order 0 inside.count committed inside.pending.items c.self.invariant.pending) in
+    let waits : IsInOrder (1, 0) inside.count pending = rw c.forget_due.ensures
+    (behind_in_order (1, 0) inside.count committed inside.pending.items c.self.invariant.pending) in
     let there : c.args.have ≤ inside.count =
     omega (arith, c.requires.there, ap (λ (v : Core). v.count) c.self.view_is) in
     ordered_told (core_value inside) c.self.invariant c.args.committed c.args.have committed
@@ -33,7 +33,7 @@ returns c = record {
       let pending = c.forget_due.new.pending.items in
       let due = c.in_ok-due.due in
       let same = c.self.view_is in
-      let ordered = subst (λ (v : Core). IsInOrder 0 v.count v.pending) same
+      let ordered = subst (λ (v : Core). IsInOrder (1, 0) v.count v.pending) same
       c.self.invariant.pending in
       let out : due ≡ front more now.pending =
       c.in_ok-due.ensures ∙ ap (λ (v : Core). front more v.pending) same in

@@ -30,7 +30,7 @@ use denote.Triple.Entry.{alive}
 use denote.Triple.Spec.{Meets, triple_of}
 use denote.Triple.Table.{entered}
 use denote.Triple.Walked.{says, Stays, stay_dropped, walk_of, ends_at, walk_Meets, Goes-dropped}
-use Rattle.std.specs.contracts.marker.PhantomData as Mark
+use Rattle.std.specs.contracts.marker.PhantomData as Phantom
 use Rattle.disk.proofs.Walks.{no_field, one_field, made}
 use Rattle.disk.specs.contracts.history.History as History
 use Rattle.disk.specs.contracts.history.History.copy as F
@@ -86,9 +86,9 @@ module _ (A : RattleType) where
             $ enter ! C Λ function (p ∷ []) Post $ alloc_all ! (λ l. pass_all ! refl ((tt, tt), tt)
             $ sets ! (agg ! (no_more !)) refl (tt, tt)
             $ sets ! (agg ! (and_then ! (get ! refl) (no_more !))) refl (tt, (tt, tt))
-            $ nothing ! $ owned ! (Mark.the_row (param 0 A)) (Is (Mark.the_row (param 0 A)))
-            (makes (Mark.the_type (param 0 A)) tt 𝓛) (record {}) (no_field ∷ []) (tt, (refl, tt))
-            $ made ! (Mark.the_row (param 0 A)) (record {}) no_field $ fjoin !
+            $ nothing ! $ owned ! (Phantom.the_row (param 0 A)) (Is (Phantom.the_row (param 0 A)))
+            (makes (Phantom.the_type (param 0 A)) tt 𝓛) (record {}) (no_field ∷ []) (tt, (refl, tt))
+            $ made ! (Phantom.the_row (param 0 A)) (record {}) no_field $ fjoin !
             $ returns ! (look_at ! 0 refl) $ free_all ! refl
             $ suffices ! _ (ends_at 𝓛 ended stayed held z (one_field no_field) it (tt, tt) (tt, tt))
             $ says ! refl $ nothing ! $ nothing ! $ fjoin ! $ move ! (2 ∷ 0 ∷ 1 ∷ []) $ done !))

@@ -11,7 +11,7 @@ returns-then-strikes_next-clause-passes c = λ honest.
     let slots = c.self.inside.slots.entries in
     let fail = c.fail-then-strikes_next in
     let since : List State = map state_of fail.new.self.past in
-    subst (λ (disk : Slots). CallPasses (past_states disk) since (fault_of disk.marks)
+    subst (λ (disk : Slots). CallPasses (past_states disk) since (fault_of disk.incidents)
     (IsReliable disk)
     fail.result (state_of disk.slots) (state_of slots) (λ _. IsSame (state_of disk.slots)))
     c.self.view_is

@@ -13,7 +13,7 @@ pub returns-then-ends_out_of_range-clause-passes : goal.returns-then-ends_out_of
 returns-then-ends_out_of_range-clause-passes c = λ honest.
     let slots = c.self.inside.slots.entries in
     let since : List State = map state_of c.fail.new.self.past in
-    subst (λ (disk : Slots). CallPasses (past_states disk) since (fault_of disk.marks)
+    subst (λ (disk : Slots). CallPasses (past_states disk) since (fault_of disk.incidents)
     (IsReliable disk)
     c.fail.result (state_of disk.slots) (state_of slots)
     (BegunWrite (state_of disk.slots) c.args.file c.args.at c.args.bytes.now))

@@ -1,5 +1,6 @@
 use Rattle.std.proofs.Common.{◌≡◌, ap, List, subst, sym, take, ℕ, ◌∙◌}
 use Rattle.std.specs.Prelude.{IfOk, IsErrOf}
+use Rattle.byte_fields.specs.{row_key}
 use Rattle.kv_types.specs.{BatchContent, map_of}
 use Rattle.embedded_store.proofs.StoreReads.{read_refused, shown_count, shown_said, taken}
 use Rattle.embedded_store.specs.Stores.{store_disk, store_engine}
@@ -41,11 +42,12 @@ pub returns-clause-damaged : goal.returns-clause-damaged
 returns-clause-damaged g c = λ list shown damaged.
     let store = c.args.self.now in
     subst (λ (n : ℕ). OneNamedLacksBlock (g.D.Disk.state (store_disk store))
-    (engine_version (store_engine store)).version.tables c.args.key.now n)
+    (engine_version (store_engine store)).version.tables (row_key c.args.key.now) n)
     c.number_of-at.ensures.number
     (shown_said store list (λ _. IsErrOf c.get.result Damaged →
     OneNamedLacksBlock (g.D.Disk.state (store_disk store))
-    (engine_version (store_engine store)).version.tables c.args.key.now c.number_of-at.result)
+    (engine_version (store_engine store)).version.tables (row_key c.args.key.now)
+    c.number_of-at.result)
     c.get.ensures.damaged shown damaged)
 
 -- the engine does not ask the disk
@@ -53,7 +55,7 @@ pub returns-clause-memory : goal.returns-clause-memory
 returns-clause-memory g c = λ list shown has.
     let store = c.args.self.now in
     let flushed = (engine_version (store_engine store)).version.flushed in
-    let key = c.args.key.now in
+    let key = row_key c.args.key.now in
     shown_said store list (λ l. MemoryHas l flushed c.number_of-at.result key →
     NeedsNoDisk (store_disk store) (engine_disk c.get.new.self) c.get.result) c.get.ensures.memory
     shown (subst (λ (n : ℕ). MemoryHas list flushed n key) (sym c.number_of-at.ensures.number) has)

@@ -1,6 +1,6 @@
 use Rattle.std.proofs.Common.{◌≡◌, ap, List, subst, take, ℕ, ◌∙◌}
 use Rattle.std.specs.Prelude.{IfOk, IsErrOf}
-use Rattle.kv_types.specs.{BatchContent}
+use Rattle.kv_types.specs.{BatchContent, stored_span}
 use Rattle.kv_types.specs.Pages.{page_of}
 use Rattle.embedded_store.proofs.StoreReads.{read_refused, shown_count, shown_said, taken}
 use Rattle.embedded_store.specs.Stores.{store_disk, store_engine}
@@ -41,5 +41,5 @@ pub returns-clause-damaged : goal.returns-clause-damaged
 returns-clause-damaged g c = λ list shown damaged.
     let store = c.args.self.now in
     shown_said store list (λ _. IsErrOf c.rows.result Damaged →
-    OneIsDamagedIn c.args.range.now (g.D.Disk.state (store_disk store))
+    OneIsDamagedIn (stored_span c.args.range.now) (g.D.Disk.state (store_disk store))
     (engine_version (store_engine store)).version.tables) c.rows.ensures.damaged shown damaged

@@ -1,5 +1,6 @@
 use Rattle.std.proofs.lemmas.Grind.{common_steps}
 use Rattle.std.proofs.Common.{◌≤◌, arith, refl}
+use Rattle.byte_fields.specs.{row_key}
 use Rattle.disk.specs.KeepingLemmas.{same_files}
 use Rattle.store_files.specs.OpenFiles.{batch_count}
 use Rattle.engine.specs.Engines.{engine_disk}
@@ -66,10 +67,10 @@ pub returns-clause-memory : goal.returns-clause-memory
 returns-clause-memory g c =
     let it = c.args.self.now in
     record {
-      reads = λ list r. needs_none g.D.Disk it.files _ it.store c.args.at c.args.key.now
+      reads = λ list r. needs_none g.D.Disk it.files _ it.store c.args.at (row_key c.args.key.now)
           c.get-answer.result c.get-answer.ensures.memory list
           (meant_as_held g.D.Disk c.held_files_are_left.ensures it list r);
-      meant = λ list m. needs_none g.D.Disk it.files _ it.store c.args.at c.args.key.now
+      meant = λ list m. needs_none g.D.Disk it.files _ it.store c.args.at (row_key c.args.key.now)
           c.get-answer.result c.get-answer.ensures.memory list (were_meant g.D.Disk it list m);
     }
 

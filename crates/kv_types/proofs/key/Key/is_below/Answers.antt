@@ -1,4 +1,4 @@
-use Rattle.kv_types.specs.ByteOrderLemmas.{lt_below}
+use Rattle.byte_fields.specs.ByteOrderLemmas.{lt_below}
 use Rattle.kv_types.proofs.key.Key.is_below.Goals as goal
 
 pub returns : goal.returns

@@ -1,10 +1,10 @@
 use Rattle.std.proofs.Common.{◌≡◌, ◌↔◌, ℕ, Bool, true, false, IsTrue, List, Option}
 use Rattle.std.proofs.Common.{IfSome, refl, sym, ap, subst}
 use Rattle.std.proofs.lemmas.Bool.{false≢true}
-use Rattle.kv_types.specs.Order.{IsBelow}
+use Rattle.byte_fields.specs.Order.{IsBelow}
+use Rattle.byte_fields.specs.ByteOrderLemmas.{not_below, from_below}
 use Rattle.kv_types.specs.Spans.{Span}
 use Rattle.kv_types.specs.Pages.{IsWithin}
-use Rattle.kv_types.specs.ByteOrderLemmas.{not_below, from_below}
 use Rattle.kv_types.proofs.range.Range.contains.Goals as goal
 
 below : (range : Span) (key from : List ℕ) → from ≡ range.from → IsBelow key from

@@ -24,6 +24,7 @@ pub returns-clause-history : goal.returns-clause-history
 returns-clause-history g c = λ past run.
     let made = run.made in
     let es = modelled_from 1 past.events past.choices in
+    let one = c.one_history.ensures past.configs es made.lawful in
     let report : Report = record { steps = c.args.self.steps; nodes = c.in_ok-nodes.nodes } in
     let is = run_left c.args.self.nodes.items c.args.self.frames.items past made g.C.Carrier.loses
     run.arrives
@@ -35,7 +36,7 @@ returns-clause-history g c = λ past run.
     one_of in_memory (λ (node : NodeReport). node.id)
     (λ (node : NodeReport). node.disk)
     past.configs past.events past.choices report.steps.items report.nodes.items is.trace is.disks
-    (c.one_history.ensures past.configs es made.lawful)
+    one (c.exactly_once.ensures past.configs es made.lawful one)
     (c.run_is_outcomes.ensures past.configs es) c.pages_agree.ensures.agree
 
 pub returns-then-ended-clause-kept : goal.returns-then-ended-clause-kept

@@ -26,10 +26,11 @@ returns-clause-history g c = λ past run.
     let self = c.args.self.now in
     let made = run.made in
     let es = modelled_from 1 past.events past.choices in
+    let one = c.one_history.ensures past.configs es made.lawful in
     one_of g.D.Disk (λ (sim : SimNode g.row.D.Denot g.D.Disk). sim.id)
     (λ (sim : SimNode g.row.D.Denot g.D.Disk). disk_in sim.state)
     past.configs past.events past.choices past.steps self.nodes.items made.trace
     (disks_so_far self.nodes.items self.frames.items past made
     (λ sim. disk_represents c.disks_represent.ensures sim.state))
-    (c.one_history.ensures past.configs es made.lawful)
+    one (c.exactly_once.ensures past.configs es made.lawful one)
     (c.run_is_outcomes.ensures past.configs es) c.pages_agree.ensures.agree

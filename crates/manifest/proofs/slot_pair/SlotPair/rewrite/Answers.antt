@@ -87,7 +87,7 @@ returns-clause-changes g c = record {
         other_is_open = true;
         log = c.in_ok-log.log;
       })
-      file refl refl refl (subst (λ (f : ℕ). IsAt f 11 c.in_ok-log.log) file c.in_ok-log.ensures.at)
+      file refl refl refl (subst (λ (f : ℕ). IsAt f 13 c.in_ok-log.log) file c.in_ok-log.ensures.at)
       log
       (subst (λ (f : ℕ). IsDurableAs new f (1 ∷ whole)) file there)
       (c.replace.ensures.kept.files honest slots.slot

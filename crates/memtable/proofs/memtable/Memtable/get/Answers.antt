@@ -5,8 +5,8 @@ use Rattle.memtable.specs.Tables.{TableHolds}
 use Rattle.memtable.proofs.Gets.{found_rising, newest, none_there, all_newer}
 use Rattle.memtable.proofs.memtable.Memtable.get.Goals as goal
 
-pub get-requires-3 : goal.get-requires-3
-get-requires-3 c =
+pub get-version-requires : goal.get-version-requires
+get-version-requires c =
     (c.in-Some-last_up_to.ensures (found_rising c.args.self.now.map c.args.key.now
     c.in-Some.versions.now c.in-Some.ensures.value (c.args.self.now.rising c.if-self.false))).0
 
@@ -16,18 +16,20 @@ pub returns-in-Some-value-clause-found :
 unfolding TableHolds
 returns-in-Some-value-clause-found c =
     newest c.args.self.now.map c.args.key.now c.in-Some.versions.now c.args.at c.get-2.result
-    c.in-Some-last_up_to.place c.get-3.result.now (Some c.in-Some-value.value) c.get-2.ensures.same
-    c.in-Some.ensures.value (c.args.self.now.rising c.if-self.false) c.in-Some-last_up_to.ensures
-    c.get-3.ensures c.in-Some-value.is
+    c.in-Some-last_up_to.place c.get-version.result.now (Some c.in-Some-value.value)
+    c.get-2.ensures.same c.in-Some.ensures.value (c.args.self.now.rising c.if-self.false)
+    c.in-Some-last_up_to.ensures c.get-version.ensures c.in-Some-value.is
 
 -- a deletion
 pub returns-in-None-clause-found : goal.returns-in-None-clause-found
 unfolding TableHolds
-returns-in-None-clause-found c =
-    newest c.args.self.now.map c.args.key.now c.in-Some.versions.now c.args.at c.get-2.result
-    c.in-Some-last_up_to.place c.get-3.result.now None c.get-2.ensures.same
-    c.in-Some.ensures.value (c.args.self.now.rising c.if-self.false) c.in-Some-last_up_to.ensures
-    c.get-3.ensures c.in-None.is
+returns-in-None-clause-found c = (
+  c.get-version.result.now.number,
+  newest c.args.self.now.map c.args.key.now c.in-Some.versions.now c.args.at c.get-2.result
+      c.in-Some-last_up_to.place c.get-version.result.now None c.get-2.ensures.same
+      c.in-Some.ensures.value (c.args.self.now.rising c.if-self.false)
+      c.in-Some-last_up_to.ensures c.get-version.ensures c.in-None.is,
+)
 
 -- the key has no entry
 pub returns-in_default-clause-found : goal.returns-in_default-clause-found

@@ -2,7 +2,7 @@ use Rattle.std.proofs.Common.{◌≡◌, sym, ap, ◌∙◌, Some, None}
 use Rattle.std.specs.BTreeMap.{is_at}
 use Rattle.std.specs.List.{slice_get}
 use Rattle.std.specs.Map.{lookup}
-use Rattle.kv_types.specs.{stored_cmp}
+use Rattle.byte_fields.specs.{stored_cmp}
 use Rattle.memtable.specs.Maps.{entry_version, found}
 use Rattle.memtable.specs.Tables.{TableHolds}
 use Rattle.memtable.proofs.memtable.Memtable.new.Goals as goal

@@ -1,6 +1,6 @@
 use Rattle.std.proofs.Common.{◌≡◌, subst, sym, rules}
 use Rattle.std.proofs.lemmas.List.Sorted.{IsPartitionPoint-from_clause}
-use Rattle.kv_types.specs.{lent_key}
+use Rattle.byte_fields.specs.{lent_key}
 use Rattle.merge_iter.specs.Order.{spot}
 use Rattle.merge_iter.specs.ListEntries.{IsSortedList}
 use Rattle.merge_iter.proofs.ListSearches.{IsSought, is_early, partitioned, sought}

@@ -1,6 +1,6 @@
 use Rattle.std.proofs.Common.{rules}
 use Rattle.merge_iter.specs.Moves.{all_moves}
-use Rattle.kv_types.specs.{lent_key}
+use Rattle.byte_fields.specs.{lent_key}
 use Rattle.merge_iter.specs.declared.direction.Direction.TheVariants.{Forward}
 use Rattle.merge_iter.specs.declared.place.Place.TheVariants as place
 use Rattle.merge_iter.specs.Order.{spot}

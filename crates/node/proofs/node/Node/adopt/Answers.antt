@@ -1,7 +1,7 @@
 use Rattle.std.proofs.Common.{ℕ, List, [], ap, arith, refl, sym, subst, ◌∙◌, inr}
 use Rattle.std.proofs.lemmas.Result.{err_from_is_err_and}
 use Rattle.disk.specs.{IsEnvironmental}
-use Rattle.kv_types.specs.{BatchContent}
+use Rattle.kv_types.specs.{Edits}
 use Rattle.chain_model.specs.{Message, ack}
 use Rattle.chain_core.specs.declared.Done.TheVariants as done
 use Rattle.chain_core.specs as core
@@ -15,6 +15,7 @@ use Rattle.node.proofs.Adoptions.{adopted_facts, adopts, recordable}
 use Rattle.node.proofs.Causes.{env_of, later_ends, memory_ends, memory_told, on_ok, only_memory}
 use Rattle.node.proofs.Causes.{only_memory_ends, passed_ends, still_works, stop_passed}
 use Rattle.node.proofs.Counts.{counts_same, epoch_left, ids_left, keeps_floor, keeps_kept}
+use Rattle.node.proofs.Counts.{empty_batch}
 use Rattle.node.proofs.Counts.{snapshots_left}
 use Rattle.node.proofs.Ends.{ends_rule, ends_stopped}
 use Rattle.node.proofs.Running.{goes_on, kept_on}
@@ -44,7 +45,7 @@ returns-in_err-adopt g c =
             (later_ends e c.in_err-adopt.ensures.causes);
       };
       ends = λ x n input any r.
-          let a = done_of x n [] (done.Adopted c.args.epoch c.args.config) in
+          let a = done_of x n empty_batch (done.Adopted c.args.epoch c.args.config) in
           let p = err_from_is_err_and result err in
           let why = c.in_err-adopt.ensures.met.reads n.list r.store.reads in
           ends_stopped g.D.Disk old _ x n a _ result p.0 p.1
@@ -70,7 +71,7 @@ returns-in_err-due g c =
         causes = memory_ends result err;
       };
       ends = λ x n input any r.
-          let a = done_of x n [] (done.Adopted c.args.epoch c.args.config) in
+          let a = done_of x n empty_batch (done.Adopted c.args.epoch c.args.config) in
           let p = err_from_is_err_and result err in
           ends_stopped g.D.Disk old _ x n a _ result p.0 p.1 (inr p.2)
           (c.adopt.ensures.changes.keeps.disk.honest.1 r.honest)
@@ -148,14 +149,15 @@ returns g c =
         causes = only_memory_ends made result stops;
       };
       ends = λ x n input any r.
-          let a = done_of x n [] d in
-          let leaves = law x n [] d in
-          let follows = subst (λ (y : ℕ). core.CoreFollows new (done_of y n [] d) replies) r.id
-          (after n [] r.core) in
+          let a = done_of x n empty_batch d in
+          let leaves = law x n empty_batch d in
+          let follows = subst
+          (λ (y : ℕ). core.CoreFollows new (done_of y n empty_batch d) replies) r.id
+          (after n empty_batch r.core) in
           let holds = (c.in_ok-adopt.ensures.changes.list n.list).holds r.store in
           let facts = ap (λ (l : LookUps). l.facts) known ∙ ap (λ (l : LookUps). l.facts) told
           ∙ adopted_facts g.D.Disk old c.args.epoch c.args.config law x n r in
-          let runs = goes_on g.D.Disk old _ x n [] d a leaves r
+          let runs = goes_on g.D.Disk old _ x n empty_batch d a leaves r
           (c.set_committed.ensures.stays.holds n.list holds) facts follows.is
           (c.in_ok-due.ensures.same ∙ r.id) in
           let none : AreFrames c.new.result [] = rw c.new.ensures refl in
@@ -163,8 +165,9 @@ returns g c =
           (sym c.set_committed.ensures.disk)
           (adopts g.D.Disk old c.args.epoch c.args.config law x n r
           (engine_disk c.adopt.new.self) (c.adopt.ensures.changes.any_moment n.list r.store)) in
-          let sent : ℕ → List (Message BatchContent) = λ y. ack y a.node in
-          ends_rule g.D.Disk old _ x n input [] d a due c.deref.result.now sent made result moments
+          let sent : ℕ → List (Message Edits) = λ y. ack y a.node in
+          ends_rule g.D.Disk old _ x n input empty_batch d a due c.deref.result.now sent made result
+          moments
           leaves runs follows.replied c.deref.ensures refl
           (c.output_of.ensures a.node [] runs.core none) stops;
     }

@@ -2,7 +2,7 @@ use Rattle.std.proofs.Common.{◌≡◌, ◌+◌, ◌++◌, ◌∷◌, [], ap, a
 use Rattle.disk.specs.{IsEnvironmental}
 use Rattle.std.proofs.Common.{inr, ◌∙◌, List, if◌then◌else◌}
 use Rattle.std.proofs.lemmas.Result.{err_from_is_err_and}
-use Rattle.kv_types.specs.{BatchContent}
+use Rattle.kv_types.specs.{Edits}
 use Rattle.configurations.specs.{is_tail}
 use Rattle.chain_model.specs.{Message, ack, forward}
 use Rattle.chain_core.specs as core
@@ -179,7 +179,7 @@ returns g c =
           let tail : acks ≡ acks_after d (is_tail a.node.ids x) = c.acks_after-acks.ensures
           ∙ ap (λ l. acks_after d (is_tail l old.core.id)) ids
           ∙ ap (λ y. acks_after d (is_tail a.node.ids y)) r.id in
-          let sent : ℕ → List (Message BatchContent) = λ y.
+          let sent : ℕ → List (Message Edits) = λ y.
           forward y a.node new.count ++ (if acks then ack y a.node else []) in
           let frames = ap (λ k. forward x a.node k ++ (if acks then ack x a.node else [])) number
           ∙ frames_of x n a.node d acks has tail in

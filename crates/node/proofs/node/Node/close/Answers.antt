@@ -49,5 +49,5 @@ returns g c =
     c.in_ok-after.ensures.after c.in_ok-after.ensures.same
     (λ ended. still_works known.changes.keeps.ends may.works ended) known.changes.told
     (λ list. (known.changes.kept list).holds) (Ok c.replying.result)
-    (λ x n input. c.replying.ensures)
+    (λ x n input is replied. c.replying.ensures)
     refl

@@ -10,7 +10,7 @@ returns-in-Err-clause-kept g c =
     kept_as g.D.Disk (device_told c.in-Err.e c.from.result c.from.ensures) (λ a b kept. kept)
     c.in-Err.ensures.kept
 
--- an end of the engine is no want of a creation
+-- an end of the engine is no want of a creation, and no old format
 pub returns-in-Err-clause-causes : goal.returns-in-Err-clause-causes
 returns-in-Err-clause-causes g c =
     subst EndsCreated (sym c.from.ensures) (end_ends c.in-Err.e c.in-Err.ensures.begun)

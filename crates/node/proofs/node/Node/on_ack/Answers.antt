@@ -1,7 +1,7 @@
 use Rattle.std.proofs.Common.{◌≡◌, ℕ, List, [], arith, refl}
 use Rattle.std.proofs.Common.{Bool, nat_lt, if◌then◌else◌, ap, subst, sym, ◌∙◌, inr}
 use Rattle.std.proofs.lemmas.Result.{err_from_is_err_and}
-use Rattle.kv_types.specs.{BatchContent}
+use Rattle.kv_types.specs.{Edits}
 use Rattle.chain_model.specs.{Message, ack, on_ack}
 use Rattle.chain_core.specs.declared.Done.TheVariants as done
 use Rattle.chain_core.specs as core
@@ -12,6 +12,7 @@ use Rattle.node.specs.Steps.{disk_of}
 use Rattle.node.proofs.Outputs.{greater}
 use Rattle.node.proofs.Causes.{memory_ends, memory_told, on_ok, only_memory, only_memory_ends}
 use Rattle.node.proofs.Counts.{counts_same, epoch_left, ids_left, keeps_floor, keeps_kept}
+use Rattle.node.proofs.Counts.{empty_batch}
 use Rattle.node.proofs.Counts.{same_facts, snapshots_left}
 use Rattle.node.proofs.Ends.{ends_rule, ends_stopped}
 use Rattle.node.proofs.Running.{at_rest, goes_on, keeps_same}
@@ -89,19 +90,19 @@ returns-clause-followed g c = record {
       let old = c.args.self.now in
       let d = done.Acked c.args.committed c.args.have in
       let a = on_ack x n c.args.committed c.args.have in
-      let leaves = c.steps_leave.ensures x n [] d in
+      let leaves = c.steps_leave.ensures x n empty_batch d in
       let due = c.in_ok-due.due in
       let follows = subst (λ (y : ℕ).
-      core.CoreFollows c.after.new.self (done_of y n [] d) (committed_responses due)) r.id
-      (c.in_ok-due.ensures.after n [] r.core) in
-      let runs = goes_on g.D.Disk old _ x n [] d a leaves r
+      core.CoreFollows c.after.new.self (done_of y n empty_batch d) (committed_responses due)) r.id
+      (c.in_ok-due.ensures.after n empty_batch r.core) in
+      let runs = goes_on g.D.Disk old _ x n empty_batch d a leaves r
       (c.set_committed.ensures.stays.holds n.list r.store)
       (ap (λ (l : LookUps). l.facts) c.set_committed.ensures.told ∙ r.facts
-      ∙ sym (same_facts x n [] d a (record { epoch = λ m. refl; ids = λ m. refl }) leaves))
+      ∙ sym (same_facts x n empty_batch d a (record { epoch = λ m. refl; ids = λ m. refl }) leaves))
       follows.is
       (c.in_ok-due.ensures.same ∙ r.id) in
-      let told : Bool → List (Message BatchContent) = λ acks. if acks then ack x a.node else [] in
-      let sent : ℕ → List (Message BatchContent) =
+      let told : Bool → List (Message Edits) = λ acks. if acks then ack x a.node else [] in
+      let sent : ℕ → List (Message Edits) =
       λ y. if c.gt-grows.result then ack y a.node else [] in
       let none : AreFrames c.new.result [] = rw c.new.ensures refl in
       let grows : c.gt-grows.result ≡ nat_lt n.committed c.args.committed =
@@ -109,7 +110,8 @@ returns-clause-followed g c = record {
       ∙ ap (λ k. nat_lt k c.args.committed) (c.committed.ensures.same ∙ sym r.core.committed) in
       let moments = subst (λ disk. AlwaysRefines g.D.Disk (disk_of old) disk x n a.node)
       (sym c.set_committed.ensures.disk) (at_rest g.D.Disk old x n a.node r) in
-      ends_rule g.D.Disk old _ x n input [] d a due c.deref.result.now sent c.output_of.result
+      ends_rule g.D.Disk old _ x n input empty_batch d a due c.deref.result.now sent
+      c.output_of.result
       c.map_err.result moments leaves runs follows.replied c.deref.ensures (ap told grows)
       (c.output_of.ensures a.node [] runs.core none) c.map_err.ensures.cases;
 }

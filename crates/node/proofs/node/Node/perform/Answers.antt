@@ -18,6 +18,12 @@ returns-in-Append g c =
     (decision.Append c.in-Append.batch) c.append-in-Append.result c.in-Append.is
     (record { kept = e.kept; ends = λ x n input read. e.ends x n input tt })
 
+pub returns-in-Repeat : goal.returns-in-Repeat
+returns-in-Repeat g c =
+    let it = c.in-Repeat in
+    executes_as g.D.Disk c.args.self.now c.repeat.new.self c.args.decision
+    (decision.Repeat it.request it.number) c.repeat.result it.is c.repeat.ensures.followed
+
 pub returns-in-OnAck : goal.returns-in-OnAck
 returns-in-OnAck g c =
     executes_as g.D.Disk c.args.self.now c.on_ack.new.self c.args.decision

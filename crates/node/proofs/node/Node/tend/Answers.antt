@@ -69,7 +69,7 @@ returns-clause-works g c =
     c.requires (still_works c.in_ok-tended.ensures.changes.keeps.ends c.requires.works) _
     (with_told old.core _ c.raise.ensures.raised c.floor.ensures c.kept.ensures)
 
--- what ended the engine, or had, is no want of a creation
+-- what ended the engine, or had, is no want of a creation, and no old format
 pub returns-in_err-tended-clause-did : goal.returns-in_err-tended-clause-did
 returns-in_err-tended-clause-did g c = record {
   done = refuses c.from_residual.result _ EndsCreated c.from_residual.ensures.1

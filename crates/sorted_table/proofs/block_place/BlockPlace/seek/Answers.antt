@@ -2,7 +2,7 @@ use Rattle.std.proofs.Common.{arith, inl, inr, subst, sym, ◌∙◌, length}
 use Rattle.std.proofs.Math.Nat.{min-eq_left}
 use Rattle.std.proofs.lemmas.Bool.{cases_lt}
 use Rattle.std.specs.Rc.{rc_slice_items}
-use Rattle.kv_types.specs.{lent_key}
+use Rattle.byte_fields.specs.{lent_key}
 use Rattle.merge_iter.specs.{spot}
 use Rattle.sorted_table.specs.EntrySplits.{SplitsEntries}
 use Rattle.table_files.specs.EntryReadsLemmas.{count_read}

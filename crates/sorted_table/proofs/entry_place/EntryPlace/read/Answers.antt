@@ -32,13 +32,15 @@ overflow_sub-result c =
 pub returns-in-Some : goal.returns-in-Some
 returns-in-Some c =
     let it = c.in_ok-entry in
-    is_entry_from c.args.bytes.now c.args.start (lent_entry it.entry) it.rest.now c.len.result
-    (Some c.in-Some.value.now) (λ i. omega (arith, c.type_inv.bytes i)) c.if-start-bytes.false
-    it.ensures c.len.ensures (ap (option_map (λ v. v.now)) c.in-Some.is)
+    is_entry_from c.args.bytes.now c.args.start (lent_entry it.entry) it.rest.now
+    c.space.result c.len.result (Some c.in-Some.value.now) (λ i. omega (arith, c.type_inv.bytes i))
+    c.if-start-bytes.false it.ensures c.space.ensures c.len.ensures
+    (ap (option_map (λ v. v.now)) c.in-Some.is)
 
 pub returns-in-None : goal.returns-in-None
 returns-in-None c =
     let it = c.in_ok-entry in
-    is_entry_from c.args.bytes.now c.args.start (lent_entry it.entry) it.rest.now c.len.result
-    None (λ i. omega (arith, c.type_inv.bytes i)) c.if-start-bytes.false it.ensures c.len.ensures
+    is_entry_from c.args.bytes.now c.args.start (lent_entry it.entry) it.rest.now
+    c.space.result c.len.result None (λ i. omega (arith, c.type_inv.bytes i))
+    c.if-start-bytes.false it.ensures c.space.ensures c.len.ensures
     (ap (option_map (λ v. v.now)) c.in-None.is)

@@ -1,10 +1,19 @@
-use Rattle.std.proofs.Common.{ap, ◌∙◌}
-use Rattle.bloom.specs.{hashes_of}
-use Rattle.sorted_table.proofs.TableLookups.{by_hashes}
+use Rattle.std.proofs.Common.{◌≡◌, ℕ, subst}
+use Rattle.bloom.specs.{CoversHashed}
+use Rattle.sorted_table.specs.Open.{table_filter}
 use Rattle.sorted_table.proofs.table.Table.get.Goals as goal
 
--- the clause of `get_hashed`, since the hashes are those of the key
+-- the hashes are those of the key
 pub returns : goal.returns
 returns g c =
-    by_hashes _ _ _ _ _ _ _ _ _ (c.of.ensures ∙ ap hashes_of c.as_bytes.ensures)
-    c.get_hashed.ensures
+    let it = c.get_hashed.ensures in
+    record {
+      kept = it.kept;
+      found = it.found;
+      checked = it.checked;
+      meant = it.meant;
+      unread = subst (λ (h : ℕ × ℕ). (CoversHashed (table_filter c.args.self.now) h → ⊥)
+          → c.get_hashed.new.files ≡ c.args.files.now) c.of_stored.ensures it.unread;
+      calls = it.calls;
+      still = it.still;
+    }

@@ -1,5 +1,5 @@
 use Rattle.std.specs.Rc.{rc_slice_items}
-use Rattle.kv_types.specs.{lent_key}
+use Rattle.byte_fields.specs.{lent_key}
 use Rattle.sorted_table.proofs.CursorEnds.{file_ends, line_ends}
 use Rattle.sorted_table.proofs.table_cursor.TableCursor.ends_before.Goals as goal
 

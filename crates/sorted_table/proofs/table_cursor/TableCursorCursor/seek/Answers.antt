@@ -2,7 +2,7 @@ use Rattle.std.proofs.Common.{◌≡◌, ap, sym, subst, arith, IfSome}
 use Rattle.std.specs.Prelude.{is_err}
 use Rattle.std.proofs.lemmas.Result.{err_from_is_err_and}
 use Rattle.std.specs.Rc.{rc_slice_items}
-use Rattle.kv_types.specs.{lent_key}
+use Rattle.byte_fields.specs.{lent_key}
 use Rattle.table_format.specs.{block_entries}
 use Rattle.sorted_table.specs.BlockPlaces.{place_entry}
 use Rattle.sorted_table.specs.TableCursors.{HasReached, IsPlaceIn}

@@ -1,173 +1,50 @@
-use Rattle.std.proofs.Common.{arith}
-use Rattle.std.proofs.lemmas.Grind.{common_steps}
-use Rattle.std.proofs.Common.{◌≡◌, ◌≤◌, ℕ, List, Option, refl, subst, rules}
-use Rattle.disk.specs.{IsEnvironmental, contents}
-use Rattle.disk.specs.StillLemmas.{still}
-use Rattle.memtable.specs.{TableHolds}
-use Rattle.store_tables.specs.declared.error.EngineError.TheVariants as engine
-use Rattle.store_tables.specs.Errors.{IsEnd}
-use Rattle.store_tables.specs.LevelTables.{EntriesHave}
-use Rattle.store_files.specs.OpenFiles.{known_store}
+use Rattle.std.proofs.Common.{◌∙◌, subst, sym, take}
+use Rattle.byte_fields.specs.{StoredKey}
+use Rattle.store_tables.specs.TableReads.{OneNamedLacksBlock}
 use Rattle.store_tables.specs.RefusalLemmas.{if_refuses, passed_cause}
-use Rattle.store_files.proofs.LookUps.{found_short, memory_shows, named_lacks, never_long}
-use Rattle.store_files.proofs.LookUps.{not_damaged, tables_show, told_as}
-use Rattle.store_files.proofs.Meant.{own_blocks, zip_was}
+use Rattle.disk.specs.{IsEnvironmental}
+use Rattle.store_tables.specs.declared.error.EngineError.TheVariants as engine
+use Rattle.store_files.specs.OpenFiles.{MemoryLacks}
+use Rattle.store_files.proofs.LookUps.{answered_alike, of_row, unread_passed}
 use Rattle.store_files.proofs.store_files.StoreFiles.get.Goals as goal
 
--- no call of the disk
-pub returns-in_err-value-clause-reads : goal.returns-in_err-value-clause-reads
-returns-in_err-value-clause-reads g c = record {
-  kept = search rules;
-  causes = search rules;
-  still = λ honest.
-      still (g.D.Disk.state c.args.files.now.disk) (g.D.Disk.past c.args.files.now.disk);
-}
-
-pub returns-in-Some-clause-reads : goal.returns-in-Some-clause-reads
-returns-in-Some-clause-reads g c = record {
-  kept = search rules;
-  causes = search rules;
-  still = λ honest.
-      still (g.D.Disk.state c.args.files.now.disk) (g.D.Disk.past c.args.files.now.disk);
-}
-
--- what memory has is what the map has
-pub returns-in-Some-clause-found : goal.returns-in-Some-clause-found
-returns-in-Some-clause-found g c = λ list honest w floor count.
-    let h = w.hold in
-    let files = c.args.self.now in
-    let newest = subst (λ (o : Option (Option (List ℕ))).
-    EntriesHave c.args.at (TableHolds files.memtable) c.args.key.now o) c.in-Some.is
-    c.in_ok-value.ensures in
-    memory_shows c.look_ups_are_maps.ensures.maps list (known_store files h.known.tables)
-    h.known.store
-    c.args.at floor (subst (λ (n : ℕ). c.args.at ≤ n) h.known.count count) c.args.key.now
-    files.memtable
-    c.in-Some.value h.known.entries newest
-
--- where it has nothing, what the tables have is
+-- what is shown at the key of a row is what the map has
 pub returns-clause-found : goal.returns-clause-found
 returns-clause-found g c = λ list honest w floor count.
-    let h = w.hold in
-    let files = c.args.self.now in
-    let disk = g.D.Disk.state c.args.files.now.disk in
-    let lines = files.manifest.version.version.tables in
-    let unseen = subst (λ (o : Option (Option (List ℕ))).
-    EntriesHave c.args.at (TableHolds files.memtable) c.args.key.now o) c.in_default.is
-    c.in_ok-value.ensures in
-    let rise = c.levels_rise.ensures.lines (contents w.meant) lines h.known.tables
-    h.known.usable.version.lines.tables_in_order h.known.read in
-    let finds = c.in_ok-get.ensures.found w.meant h.known.tables
-    (known_store files h.known.tables).flushed honest
-    (zip_was disk w.meant files.tables.tables.items h.known.tables h.known.served
-    w.disk_is.blocks) h.known.store.tables rise in
-    let shows = tables_show c.table_look_ups_are_maps.ensures.maps list
-    (known_store files h.known.tables) h.known.store c.args.at floor
-    (subst (λ (n : ℕ). c.args.at ≤ n) h.known.count count) c.args.key.now files.memtable
-    c.in_ok-get.field-0 h.known.entries unseen finds in
-    told_as c.value_of.result c.value_of.ensures.value shows
-
--- what undamaged tables have is no value that is too long
-pub returns-clause-intact : goal.returns-clause-intact
-returns-clause-intact g c = λ list honest h.
-    let files = c.args.self.now in
-    let disk = g.D.Disk.state c.args.files.now.disk in
-    let lines = files.manifest.version.version.tables in
-    let rise = c.levels_rise.ensures.lines (contents disk) lines h.known.tables
-    h.known.usable.version.lines.tables_in_order h.known.read in
-    let finds = c.in_ok-get.ensures.found disk h.known.tables
-    (known_store files h.known.tables).flushed honest
-    (zip_was disk disk files.tables.tables.items h.known.tables h.known.served
-    (own_blocks disk files.tables.tables.items)) h.known.store.tables rise in
-    never_long c.in_ok-get.field-0 c.value_of.result c.value_of.ensures.damaged
-    (found_short (contents disk) lines h.known.tables h.known.read c.args.at c.args.key.now
-    c.in_ok-get.field-0 finds)
-
--- so it is where blocks are damaged, for what was found was meant
-pub returns-clause-damaged : goal.returns-clause-damaged
-returns-clause-damaged g c = λ list honest w refused.
-    let h = w.hold in
-    let files = c.args.self.now in
-    let disk = g.D.Disk.state c.args.files.now.disk in
-    let lines = files.manifest.version.version.tables in
-    let rise = c.levels_rise.ensures.lines (contents w.meant) lines h.known.tables
-    h.known.usable.version.lines.tables_in_order h.known.read in
-    let finds = c.in_ok-get.ensures.found w.meant h.known.tables
-    (known_store files h.known.tables).flushed honest
-    (zip_was disk w.meant files.tables.tables.items h.known.tables h.known.served
-    w.disk_is.blocks) h.known.store.tables rise in
-    absurd (not_damaged c.in_ok-get.field-0 c.value_of.result c.value_of.ensures.damaged
-    (found_short (contents w.meant) lines h.known.tables h.known.read c.args.at c.args.key.now
-    c.in_ok-get.field-0 finds) refused)
+    c.value_in.ensures ∙ (c.in_ok-find.ensures.found list honest w floor count).left
+    ∙ of_row c.rows_are_stored.ensures (take c.args.at list) c.args.key.now
+    c.stored-stored.result.now c.stored-stored.ensures
 
 -- a table lacks the block of the key
-pub returns-in_err-get-clause-damaged : goal.returns-in_err-get-clause-damaged
-returns-in_err-get-clause-damaged g c = λ list honest w refused.
-    let h = w.hold in
-    let files = c.args.self.now in
-    let disk = g.D.Disk.state c.args.files.now.disk in
-    let lines = files.manifest.version.version.tables in
-    let rise = c.levels_rise.ensures.lines (contents w.meant) lines h.known.tables
-    h.known.usable.version.lines.tables_in_order h.known.read in
-    let one = c.in_err-get.ensures.damaged w.meant h.known.tables honest
-    (zip_was disk w.meant files.tables.tables.items h.known.tables h.known.served
-    w.disk_is.blocks)
-    (passed_cause c.from_residual-in_err-get.result c.from_residual-in_err-get.ensures.1 refused) in
-    named_lacks disk w.meant c.args.key.now c.args.at
-    (known_store files h.known.tables).flushed lines h.known.tables
-    (record { named = h.known.read; as_meant = w.disk_is.tables }) h.known.store.tables rise one
+pub returns-in_err-find-clause-damaged : goal.returns-in_err-find-clause-damaged
+returns-in_err-find-clause-damaged g c = λ list honest w refused.
+    subst (λ (k : StoredKey). OneNamedLacksBlock (g.D.Disk.state c.args.files.now.disk)
+    c.args.self.now.manifest.version.version.tables k c.args.at) c.stored-stored.ensures
+    (c.in_err-find.ensures.damaged list honest w
+    (passed_cause c.from_residual.result c.from_residual.ensures.1 refused))
 
--- memory has nothing of the key
-pub returns-in_err-get-clause-memory : goal.returns-in_err-get-clause-memory
-returns-in_err-get-clause-memory g c = λ seen.
-    absurd (seen (subst (λ (o : Option (Option (List ℕ))).
-    EntriesHave c.args.at (TableHolds c.args.self.now.memtable) c.args.key.now o) c.in_default.is
-    c.in_ok-value.ensures))
+-- what memory has needs no disk
+pub returns-in_err-find-clause-memory : goal.returns-in_err-find-clause-memory
+returns-in_err-find-clause-memory g c = λ seen.
+    unread_passed c.from_residual.result c.from_residual.ensures.1
+    (c.in_err-find.ensures.memory (λ lacks.
+    seen (subst (MemoryLacks c.args.self.now c.args.at) c.stored-stored.ensures lacks)))
 
 pub returns-clause-memory : goal.returns-clause-memory
-returns-clause-memory g c = λ seen.
-    absurd (seen (subst (λ (o : Option (Option (List ℕ))).
-    EntriesHave c.args.at (TableHolds c.args.self.now.memtable) c.args.key.now o) c.in_default.is
-    c.in_ok-value.ensures))
-
--- of memory alone
-pub returns-in_err-value-clause-memory : goal.returns-in_err-value-clause-memory
-returns-in_err-value-clause-memory g c = λ seen. record {
-  same = refl;
-  causes = if_refuses c.from_residual.result (λ e. IsEnd e → e ≡ engine.Memory)
-      c.from_residual.ensures.1 (λ end. refl);
+returns-clause-memory g c = λ seen. record {
+  same = (c.in_ok-find.ensures.memory (λ lacks.
+      seen (subst (MemoryLacks c.args.self.now c.args.at) c.stored-stored.ensures lacks))).same;
+  causes = tt;
 }
 
-pub returns-in-Some-clause-memory : goal.returns-in-Some-clause-memory
-returns-in-Some-clause-memory g c = λ seen. record { same = refl; causes = tt }
-
 -- undamaged tables are read
-pub returns-in_err-get-clause-intact : goal.returns-in_err-get-clause-intact
-returns-in_err-get-clause-intact g c = λ list honest h.
-    if_refuses c.from_residual-in_err-get.result (IsEnvironmental engine.Disk engine.Memory)
-    c.from_residual-in_err-get.ensures.1
-    (c.in_err-get.ensures.intact h.known.tables honest h.known.served)
+pub returns-in_err-find-clause-intact : goal.returns-in_err-find-clause-intact
+returns-in_err-find-clause-intact g c = λ list honest h.
+    if_refuses c.from_residual.result (IsEnvironmental engine.Disk engine.Memory)
+    c.from_residual.ensures.1 (c.in_err-find.ensures.intact list honest h)
 
-pub returns-in_err-value-clause-found : goal.returns-in_err-value-clause-found
-returns-in_err-value-clause-found g c = grind (arith, common_steps)
-
-pub returns-in_err-value-clause-intact : goal.returns-in_err-value-clause-intact
-returns-in_err-value-clause-intact g c = grind (arith, common_steps)
-
-pub returns-in_err-value-clause-damaged : goal.returns-in_err-value-clause-damaged
-returns-in_err-value-clause-damaged g c = grind (arith, common_steps)
-
-pub returns-in-Some-clause-intact : goal.returns-in-Some-clause-intact
-returns-in-Some-clause-intact g c = grind (arith, common_steps)
-
-pub returns-in-Some-clause-damaged : goal.returns-in-Some-clause-damaged
-returns-in-Some-clause-damaged g c = grind (arith, common_steps)
-
-pub returns-in_err-get-clause-reads : goal.returns-in_err-get-clause-reads
-returns-in_err-get-clause-reads g c = grind (arith, common_steps)
-
-pub returns-in_err-get-clause-found : goal.returns-in_err-get-clause-found
-returns-in_err-get-clause-found g c = grind (arith, common_steps)
-
+-- no more is read
 pub returns-clause-reads : goal.returns-clause-reads
-returns-clause-reads g c = grind (arith, common_steps)
+returns-clause-reads g c =
+    answered_alike _ c.args.files.now c.find.new.files c.in_ok-find.field-0 c.value_in.result
+    c.in_ok-find.ensures.reads

@@ -1,6 +1,7 @@
 use Rattle.std.proofs.Common.{◌≤◌, ℕ, List, length, subst, sym}
 use Rattle.std.proofs.lemmas.Result.{IfOk-at_ok}
 use Rattle.disk.specs.{contents}
+use Rattle.kv_types.specs.{stored_span}
 use Rattle.kv_types.specs.declared.bounds.TheConstants.{MAX_NUMBER}
 use Rattle.merge_iter.specs.{AreDisjoint, AreSound, IsAlike, union_of}
 use Rattle.store_cursors.specs.contracts.store_cursor.StoreCursorCursor.TheImpl.{ghosts, no_dict}
@@ -26,7 +27,7 @@ unwrap-requires g c =
 pub returns-clause-shows : goal.returns-clause-shows
 returns-clause-shows g c = λ meant files list honest hold blocks floor count.
     let self = c.args.self.now in
-    let range = c.args.range.now in
+    let range = stored_span c.args.range.now in
     let known = hold.known in
     let tables = known.tables in
     let store = known_store self tables in
@@ -61,7 +62,8 @@ returns-clause-shows g c = λ meant files list honest hold blocks floor count.
       c.rows_at.ensures.sound meant files
           (subst (λ (l : List _). AreSound G meant l files) pushed sound)
           (subst (λ (l : List _). AreDisjoint G meant l files) pushed apart),
-      range_has_rows list store known.store c.args.at floor within range _ all _
+      range_has_rows c.rows_are_stored.ensures list store known.store c.args.at floor within
+          c.args.range.now _ all _
           (c.rows_at.ensures.entries meant files) few,
     )
 
@@ -70,7 +72,7 @@ returns-clause-shows g c = λ meant files list honest hold blocks floor count.
 pub returns-clause-intact : goal.returns-clause-intact
 returns-clause-intact g c = λ meant files list honest hold intact.
     let self = c.args.self.now in
-    let range = c.args.range.now in
+    let range = stored_span c.args.range.now in
     let disk = g.D.Disk.state files.disk in
     let known = hold.known in
     let tables = known.tables in

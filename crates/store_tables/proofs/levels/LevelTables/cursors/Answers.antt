@@ -1,6 +1,7 @@
 use Rattle.std.proofs.Common.{◌≡◌, ◌∙◌, ◌+◌, List, ap, subst, sym, take}
 use Rattle.std.specs.List.{AllZip}
 use Rattle.std.proofs.lemmas.Result.{IfOk-weaker}
+use Rattle.kv_types.specs.{stored_span}
 use Rattle.sorted_table.specs.contracts.table_cursor.TableCursorCursor.TheImpl as table
 use Rattle.store_cursors.specs.contracts.store_cursor.StoreCursorCursor.TheImpl.{ghosts, no_dict}
 use Rattle.store_model.specs.{KeyRange, LevelTable}
@@ -27,7 +28,7 @@ loop-open-preserved g c = λ meant files tables honest served.
     let over = table.ghosts g.row.D g.D.Disk table.no_dict table.no_dict in
     let items = c.deref-open-items.result.now in
     let i = c.loop-open.open-index in
-    let span = c.args.range.now in
+    let span = stored_span c.args.range.now in
     let disk = g.D.Disk.state files.disk in
     let meets_it = λ (t : LevelTable). meets_span t.range span in
     let zip = subst (λ (l : List OpenTable). AllZip (WasServedIn span disk meant) l tables)
@@ -61,7 +62,7 @@ returns g c = IfOk-weaker c.finish.result _ _
     (λ cursors through meant files tables honest served.
     let store = ghosts g.row.D g.D.Disk no_dict no_dict in
     let over = table.ghosts g.row.D g.D.Disk table.no_dict table.no_dict in
-    let span = c.args.range.now in
+    let span = stored_span c.args.range.now in
     let i = c.loop-open.open-index in
     let asked = all_asked span (WasServedIn span (g.D.Disk.state files.disk) meant)
     c.args.self.now.tables.items c.deref-open-items.result.now tables i

@@ -1,5 +1,6 @@
 use Rattle.std.proofs.Common.{List, take}
 use Rattle.disk.specs.{State}
+use Rattle.kv_types.specs.{stored_span}
 use Rattle.sorted_table.specs.contracts.table_cursor.TableCursorCursor.TheImpl as table
 use Rattle.table_files.specs.declared.CachedDisk.{CachedDisk}
 use Rattle.store_cursors.specs.contracts.store_cursor.StoreCursorCursor.TheImpl.{ghosts, no_dict}
@@ -12,7 +13,8 @@ use Rattle.store_tables.proofs.levels.LevelTables.cursors.Given as goal
 abbrev pub invariant-loop-open : goal.invariant-loop-open
 invariant-loop-open g l = (meant : State) (files : CachedDisk g.row.D.Denot g.D.Disk)
     (tables : List LevelTable) → g.D.Disk.is_honest files.disk
-    → WereServedIn l.range (g.D.Disk.state files.disk) meant l.self tables
+    → WereServedIn (stored_span l.range) (g.D.Disk.state files.disk) meant l.self tables
     → AreSeries (ghosts g.row.D g.D.Disk no_dict no_dict)
     (table.ghosts g.row.D g.D.Disk table.no_dict table.no_dict) meant meant files
-    l.series.ended.items l.series.last.items (tables_in l.range (take l.open-index tables))
+    l.series.ended.items l.series.last.items
+    (tables_in (stored_span l.range) (take l.open-index tables))

@@ -1,5 +1,5 @@
 use Rattle.std.proofs.Common.{ℕ, Err, subst, sym, Contains, rules}
-use Rattle.kv_types.specs.{StoredKey, lent_key}
+use Rattle.byte_fields.specs.{StoredKey, lent_key}
 use Rattle.disk.specs.{IsEnvironmental}
 use Rattle.disk.specs.StillLemmas.{still}
 use Rattle.sorted_table.specs.{IsOpenOn, LookupAnswer, table_file}

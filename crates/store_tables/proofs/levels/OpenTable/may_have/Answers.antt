@@ -2,8 +2,8 @@ use Rattle.std.proofs.Common.{◌≡◌, ◌↔◌, true, refl, sym, ◌∙◌, 
 use Rattle.std.specs.declared.cmp.Ordering.{Ordering}
 use Rattle.std.specs.declared.cmp.Ordering.TheVariants.{Less, Equal, Greater}
 use Rattle.std.specs.Ordering.{is_ge, is_le, ordering_reverse}
-use Rattle.kv_types.specs.{StoredKey, stored_cmp}
-use Rattle.kv_types.specs.StoredKeysLemmas.{stored_total}
+use Rattle.byte_fields.specs.{StoredKey, stored_cmp}
+use Rattle.byte_fields.specs.StoredKeysLemmas.{stored_total}
 use Rattle.store_model.specs.{KeyPrecedes}
 use Rattle.store_tables.proofs.levels.OpenTable.may_have.Goals as goal
 

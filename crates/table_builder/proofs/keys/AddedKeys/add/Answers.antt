@@ -3,7 +3,7 @@ use Rattle.std.proofs.Common.{Bool, true, false}
 use Rattle.std.specs.Str.{bytes_eq}
 use Rattle.std.proofs.lemmas.Slice.Eq.{bytes_eq-Decides}
 use Rattle.bloom.specs.{hashes_of}
-use Rattle.kv_types.specs.{StoredKey}
+use Rattle.byte_fields.specs.{StoredKey}
 use Rattle.table_builder.proofs.KeysLemmas.{knows_other, knows_same}
 use Rattle.table_builder.proofs.keys.AddedKeys.add.Goals as goal
 

@@ -1,5 +1,5 @@
 use Rattle.std.proofs.Common.{◌<◌, ℕ, length, ap, sym, ◌∙◌, arith}
-use Rattle.kv_types.specs.{StoredKey, lent_key}
+use Rattle.byte_fields.specs.{StoredKey, lent_key}
 use Rattle.merge_iter.specs.{entry_cmp, spot}
 use Rattle.table_builder.proofs.KeysLemmas.{follows_by}
 use Rattle.table_builder.proofs.keys.AddedKeys.can_follow.Goals as goal
