@@ -1,7 +1,4 @@
-pub mod Fronts
-pub mod Escape
 pub mod Printed
-pub mod Written
 pub mod Leaving
 pub mod Flowing
 pub mod Settling

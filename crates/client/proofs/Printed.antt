@@ -4,22 +4,14 @@ use Rattle.std.proofs.Common.{length, map, take, drop, replicate, refl, sym, ap,
 use Rattle.std.proofs.Common.{append_assoc, append-nil, add-one, get_or, length-append, Some, None}
 use Rattle.std.proofs.Math.Seq.{take-suc}
 use Rattle.std.proofs.lemmas.Grind.{flat_map-append}
-use Rattle.std.specs.Io.KnownBytes.{Appends}
 use Rattle.std.specs.List.{flat_map}
 use Rattle.kv_types.specs.{Row}
 use Rattle.lab.specs.declared.Line.{Line}
 use Rattle.client.specs.declared.statement_result.StatementResult.{StatementResult}
 use Rattle.client.specs.Text.{event_lines, line_output, line_text, note_text, numbered_line}
-use Rattle.client.specs.Text.{printed_row, reply_place, results_text, result_text, rows_of_line}
+use Rattle.client.specs.Text.{reply_place, results_text, result_text, rows_of_line}
 use Rattle.client.specs.Text.{step_text}
-
--- what two writes appended, one after the other
-pub appends_more : (old mid new : Option (List ℕ)) (a b : List ℕ) → Appends old mid a
-    → Appends mid new b → Appends old new (a ++ b)
-appends_more None mid new a b p q = tt
-appends_more (Some xs) None new a b p q = absurd p
-appends_more (Some xs) (Some ys) None a b p q = absurd q
-appends_more (Some xs) (Some ys) (Some zs) a b p q = rw (q, p, append_assoc) refl
+use Rattle.store_texts.specs.Texts.{printed_row}
 
 -- the next element is printed
 pub prints_next : {A : Type 0} (old mid new : List ℕ) (f : A → List ℕ) (xs : List A)
@@ -46,11 +38,6 @@ prints_line old mid new events here number line rows place are wrote own =
       flat_map-append (numbered_line number) (map printed_row rows) (line_text line ∷ []),
       append-nil own_line,
     ) (rw (own, wrote, append_assoc) refl)
-
--- nothing was appended
-pub appends_none : (out : Option (List ℕ)) → Appends out out []
-appends_none None = tt
-appends_none (Some xs) = sym (append-nil xs)
 
 -- so many copies have this length
 pub replicate-length : {A : Type 0} (k : ℕ) (x : A) → length (replicate k x) ≡ k

@@ -13,10 +13,12 @@ use Rattle.client.specs.declared.run_error.RunError.TheVariants.{Memory, Write}
 use Rattle.scripts.specs.declared.setup.Setup.{Setup}
 use Rattle.scripts.specs.declared.statement.Statement.{Statement}
 use Rattle.client.specs.declared.statement_result.StatementResult.{StatementResult}
-use Rattle.client.specs.PrintedRuns.{AppendsPart, HasEndedEarly, IsPrintedRun}
+use Rattle.client.specs.PrintedRuns.{HasEndedEarly, IsPrintedRun}
 use Rattle.client.specs.ScriptRuns.{HasRunTo, HasTurned, Stretch, followed_by, no_stretch, run_of}
 use Rattle.client.specs.Text.{event_lines, result_text, run_text}
-use Rattle.client.proofs.Printed.{appends_more, appends_none, texts_more}
+use Rattle.client.proofs.Printed.{texts_more}
+use Rattle.store_texts.specs.Writing.{AppendsPart}
+use Rattle.store_texts.specs.WritingLemmas.{appends_more, appends_none}
 use Rattle.client.proofs.StatementRuns.{Goes, goes_next, goes_nowhere, gone}
 
 module _ {D C : Type 0} {g : Ghosts D} where

@@ -15,14 +15,14 @@ use Rattle.scripts.specs.declared.statement.Statement.{Statement}
 use Rattle.client.specs.declared.run_error.RunError.TheVariants.{Memory, Write}
 use Rattle.client.specs.ScriptRuns.{IsRising, left_after}
 use Rattle.client.specs.declared.statement_result.StatementResult.{StatementResult}
-use Rattle.client.specs.PrintedRuns.{AppendsPart}
+use Rattle.store_texts.specs.Writing.{AppendsPart}
 use Rattle.client.specs.ReportedRuns.{AreLinesOf, AreReported}
 use Rattle.client.specs.ReportedRuns.{IsCutAtFirst, IsReportedIn}
 use Rattle.client.specs.ReportedRuns.{ReportIsCut, ReportIsPrinted, places_between}
 use Rattle.client.specs.ReportedRuns.AreReported.{NoStatement, OneMore}
 use Rattle.client.specs.Text.{result_text}
 use Rattle.client.proofs.PlacesBetween.{left_rises_on}
-use Rattle.client.proofs.Printed.{appends_more, appends_none}
+use Rattle.store_texts.specs.WritingLemmas.{appends_more, appends_none}
 use Rattle.client.proofs.ReportedLemmas.{no_more}
 use Rattle.client.proofs.Tends.{ends_own}
 

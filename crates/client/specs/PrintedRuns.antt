@@ -13,11 +13,7 @@ use Rattle.client.specs.declared.statement_result.StatementResult.{StatementResu
 use Rattle.client.specs.ScriptRuns.{AreResults, HasRunTo, Stretch, followed_by, no_stretch, run_of}
 use Rattle.scripts.specs.Scripts.{Names}
 use Rattle.client.specs.Text.{event_lines, result_text, run_text}
-
--- a beginning of a text was written
-pub record AppendsPart (old new : Option (List ℕ)) (text : List ℕ) : Type 0 where
-  pub count : ℕ
-  pub wrote : Appends old new (take count text)
+use Rattle.store_texts.specs.Writing.{AppendsPart}
 
 module _ {D C : Type 0} {g : Ghosts D} where
   -- the world has run no event at the nodes that were set up, and the statements name only these

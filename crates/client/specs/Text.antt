@@ -20,7 +20,6 @@ use Rattle.lab.specs.Tended.TheVariants as tended
 use Rattle.lab.specs.DropReason.{DropReason}
 use Rattle.lab.specs.DropReason.TheVariants as reason
 use Rattle.lab.specs.declared.Line.{Line}
-use Rattle.lab.specs.Numbers.{Numbers}
 use Rattle.lab.specs.declared.Line.TheVariants as line
 use Rattle.client.specs.declared.statement_result.StatementResult.{StatementResult}
 use Rattle.client.specs.declared.statement_result.Note.{Note}
@@ -28,6 +27,7 @@ use Rattle.client.specs.declared.statement_result.Note.TheVariants as note
 use Rattle.script_words.specs.declared.error.ScriptError.{ScriptError}
 use Rattle.script_words.specs.declared.error.ScriptError.TheVariants as fault
 use Rattle.script_words.specs.Words.{bytes_text}
+use Rattle.store_texts.specs.Texts.{numbers_text, printed_row}
 
 -- a refusal's number and name
 abbrev pub refusal_text : Refusal → List ℕ
@@ -75,11 +75,6 @@ cause_text stop.Damaged = codes "damaged"
 cause_text stop.Memory = codes "memory"
 cause_text stop.NotCreated = codes "not created"
 cause_text stop.OldFormat = codes "old format"
-
--- a row of an answer
-abbrev pub printed_row : Row → List ℕ
-printed_row row =
-    codes "row " ++ (bytes_text row.key ++ (codes "=" ++ bytes_text row.value))
 
 -- what is said where rows were left
 abbrev pub more_text : Bool → List ℕ
@@ -142,36 +137,6 @@ abbrev pub tended_text : Tended → List ℕ
 tended_text tended.Idle = codes "idle"
 tended_text tended.Worked = codes "tended"
 tended_text tended.Full = codes "full"
-
--- a number behind a space
-abbrev pub spaced : ℕ → List ℕ
-spaced n = codes " " ++ decimal n
-
--- how many batches a node has
-abbrev pub counts_text : ℕ → ℕ → ℕ → List ℕ
-counts_text epoch count committed =
-    codes "epoch " ++ (decimal epoch ++ (codes " count " ++ (decimal count
-    ++ (codes " committed " ++ decimal committed))))
-
--- what it keeps of them, and how many tables each level has
-abbrev pub kept_text : ℕ → ℕ → List ℕ → List ℕ
-kept_text floor kept tables =
-    codes "floor " ++ (decimal floor ++ (codes " kept " ++ (decimal kept
-    ++ (codes " tables" ++ flat_map spaced tables))))
-
--- what a node knows of itself: its batches, what it keeps of them, and its tables
-abbrev pub numbers_text : ℕ → Numbers → List ℕ
-numbers_text node it =
-    codes "node " ++ (decimal node
-    ++ (codes " " ++ (counts_text it.epoch it.count it.committed
-    ++ (codes " " ++ kept_text it.floor it.kept it.tables))))
-
--- what a store of this node has, of which nothing is known to be committed
-abbrev pub store_text : (node epoch count floor kept : ℕ) → List ℕ → List ℕ
-store_text node epoch count floor kept tables =
-    codes "node " ++ (decimal node ++ (codes " epoch " ++ (decimal epoch
-    ++ (codes " count " ++ (decimal count
-    ++ (codes " " ++ kept_text floor kept tables))))))
 
 -- a line of a report, but for the rows of an answer
 abbrev pub line_text : Line → List ℕ

@@ -6,9 +6,7 @@ mod run_error;
 mod script_run;
 mod statement_result;
 mod text;
-mod writing;
 
 pub use printed_run::run_script;
 pub use run_error::RunError;
-pub use text::{RowText, StoreText, cause_name, fault_name};
-pub use writing::print;
+pub use text::{cause_name, fault_name};

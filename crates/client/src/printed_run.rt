@@ -9,13 +9,13 @@ use crate::run_error::RunError;
 use crate::script_run::run_statement;
 use crate::statement_result::StatementResult;
 use crate::text::{add_event_lines, print_result};
-use crate::writing::print;
 use disk::Crash;
 use lab::{Carrier, Lines, World};
 use scripts::Script;
 use std::alloc::{AllocError, Global};
 use std::collections::VecDeque;
 use std::io::Write;
+use store_texts::print;
 
 // The lines behind so many steps.
 fn behind(steps: &[Lines], count: usize) -> &[Lines]

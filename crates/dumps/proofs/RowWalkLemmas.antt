@@ -11,14 +11,15 @@ use Rattle.byte_fields.specs.Order.{IsBelow, IsStrictOrder}
 use Rattle.kv_types.specs.{Row}
 use Rattle.kv_types.specs.Pages.{IsPage, PagesAgree, page_of}
 use Rattle.kv_types.specs.{BatchContent, Rows, map_of}
-use Rattle.client.specs.PrintedRuns.{AppendsPart}
+use Rattle.store_texts.specs.Writing.{AppendsPart}
 use Rattle.dumps.specs.declared.dump_error.DumpError.{DumpError}
 use Rattle.dumps.specs.declared.dump_error.DumpError.TheVariants.{Write}
 use Rattle.dumps.specs.Dumped.{AreAllWritten, AreBegun, AreWritten, DiskIsOnlyRead, ShowsList}
 use Rattle.dumps.specs.Dumped.{StillShows, row_line}
 use Rattle.dumps.specs.Walks.{AreRowsOf, all_from}
 use Rattle.dumps.specs.Walks.StartsPage.{First}
-use Rattle.dumps.proofs.TextsLemmas.{appends_more, appends_none, part_behind, part_same}
+use Rattle.dumps.proofs.TextsLemmas.{part_behind, part_same}
+use Rattle.store_texts.specs.WritingLemmas.{appends_more, appends_none}
 use Rattle.dumps.proofs.WalksLemmas.{split_with_page, walk_on, walked_all}
 
 -- no call of an engine's disk has failed so far, and its look-ups are as they were

@@ -11,7 +11,7 @@ use Rattle.kv_types.specs.{Row}
 use Rattle.kv_types.specs.Pages.{PagesAgree, page_of}
 use Rattle.kv_types.specs.{BatchContent, map_of}
 use Rattle.engine.specs.{AreOrdered, Facts, IsReadable, LookUps, with_committed}
-use Rattle.client.specs.PrintedRuns.{AppendsPart}
+use Rattle.store_texts.specs.Writing.{AppendsPart}
 use Rattle.dumps.specs.declared.dump_error.DumpError.{DumpError}
 use Rattle.dumps.specs.declared.dump_error.DumpError.TheVariants.{Store, Write}
 use Rattle.node.specs.declared.stop.Stop.TheVariants as stop
@@ -22,7 +22,8 @@ use Rattle.dumps.specs.Dumped.{IsSomeDump, WritesText, count_line, dump_text, ro
 use Rattle.dumps.specs.Dumped.{store_line}
 use Rattle.dumps.specs.Walks.{AreRowsOf, all_from}
 use Rattle.dumps.proofs.DeviceLemmas.{IsPassedOn, output_refusal}
-use Rattle.dumps.proofs.TextsLemmas.{appends_more, part_behind, part_none, part_of_longer}
+use Rattle.dumps.proofs.TextsLemmas.{part_behind, part_none, part_of_longer}
+use Rattle.store_texts.specs.WritingLemmas.{appends_more}
 
 -- the output took no more than a beginning of a text
 pub written_in_part : {T : Type 0} (text : List ℕ) (old new : Option (List ℕ))

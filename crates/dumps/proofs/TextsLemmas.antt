@@ -2,19 +2,8 @@
 use Rattle.std.proofs.Common.{◌≡◌, ℕ, zero, suc, List, [], ◌∷◌, ◌++◌, Option, None, Some, take}
 use Rattle.std.proofs.Common.{append_assoc, append-nil, ap, refl, subst, sym}
 use Rattle.std.specs.Io.KnownBytes.{Appends}
-use Rattle.client.specs.PrintedRuns.{AppendsPart}
-
-pub appends_none : (out : Option (List ℕ)) → Appends out out []
-appends_none None = tt
-appends_none (Some xs) = sym (append-nil xs)
-
--- two texts, one behind the other
-pub appends_more : (old mid new : Option (List ℕ)) (a b : List ℕ) → Appends old mid a →
-    Appends mid new b → Appends old new (a ++ b)
-appends_more None mid new a b p q = tt
-appends_more (Some xs) None new a b p q = absurd p
-appends_more (Some xs) (Some ys) None a b p q = absurd q
-appends_more (Some xs) (Some ys) (Some zs) a b p q = rw (q, p, append_assoc) refl
+use Rattle.store_texts.specs.Writing.{AppendsPart}
+use Rattle.store_texts.specs.WritingLemmas.{appends_more, appends_none}
 
 -- a beginning of a text is one of each longer text
 longer : (a b : List ℕ) (count : ℕ) → (n : ℕ) × (take n (a ++ b) ≡ take count a)

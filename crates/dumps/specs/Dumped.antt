@@ -16,8 +16,8 @@ use Rattle.engine.specs.{FilesRepresent, IsDamaged, IsNotCreated, IsOldStore, Is
 use Rattle.engine.specs.{WereMeant}
 use Rattle.engine.specs.{kept_files, table_count}
 use Rattle.node.specs.declared.stop.Stop.TheVariants as stop
-use Rattle.client.specs.PrintedRuns.{AppendsPart}
-use Rattle.client.specs.Text.{printed_row, store_text}
+use Rattle.store_texts.specs.Writing.{AppendsPart}
+use Rattle.store_texts.specs.Texts.{printed_row, store_text}
 use Rattle.dumps.specs.declared.dump_error.DumpError.{DumpError}
 use Rattle.dumps.specs.declared.dump_error.DumpError.TheVariants.{Store, Write}
 use Rattle.dumps.specs.Walks.{AreFirstRows, AreRowsOf}

@@ -13,7 +13,6 @@ ghost use Rattle.dumps.specs.Dumped.{IsOfOpened, ShowsList, StillShows, row_line
 
 use crate::dump_error::DumpError;
 use byte_fields::laws::byte_order_is_strict;
-use client::{RowText, print};
 use disk::Disk;
 use engine::Engine;
 use kv_types::bounds::MAX_ROWS;
@@ -22,6 +21,7 @@ use kv_types::{Key, Number, Page, Range, Row};
 use node::Stop;
 use std::alloc::{AllocError, Global};
 use std::io::Write;
+use store_texts::{RowText, print};
 
 // The least key.
 fn least_key(alloc: Global) -> Result<Key, DumpError>

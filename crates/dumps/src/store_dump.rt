@@ -14,7 +14,6 @@ ghost use Rattle.dumps.specs.Dumped.{WritesText, count_line, store_line};
 
 use crate::dump_error::DumpError;
 use crate::row_walk::write_rows;
-use client::{StoreText, print};
 use disk::Disk;
 use engine::Engine;
 use kv_types::laws::pages_agree;
@@ -22,6 +21,7 @@ use kv_types::{Limits, Number};
 use node::Numbers;
 use std::alloc::Global;
 use std::io::Write;
+use store_texts::{StoreText, print};
 
 // The numbers of an engine.
 fn numbers_of<D: Disk + Drop>(engine: &Engine<D>) -> Numbers

@@ -16,7 +16,8 @@ use Rattle.lab.specs.{HasRunNothing, WorldHasLimits, configs_of, lines_so_far, n
 use Rattle.lab.specs.NodeLists.{Configurations, at_epoch}
 use Rattle.client.specs.declared.run_error.RunError.{RunError}
 use Rattle.client.specs.declared.run_error.RunError.TheVariants as run
-use Rattle.client.specs.PrintedRuns.{AppendsPart, HasEndedEarly}
+use Rattle.client.specs.PrintedRuns.{HasEndedEarly}
+use Rattle.store_texts.specs.Writing.{AppendsPart}
 use Rattle.client.specs.ReportedRuns.{ReportIsCut, ReportIsPrinted}
 use Rattle.folder_nodes.specs.Finding.{sim_ids}
 use Rattle.folder_nodes.specs.FoundNodes.{IsFoundIn}

@@ -18,7 +18,8 @@ use Rattle.script_words.specs.Lines.{script_lines}
 use Rattle.scripts.specs.Scripts.{IsScript}
 use Rattle.scripts.specs.Faults.{script_fault, start}
 use Rattle.program.specs.Failures.{failure_line, failure_of, IsFailureOf, IsOfReading}
-use Rattle.client.specs.PrintedRuns.{AppendsPart, HasEndedEarly}
+use Rattle.client.specs.PrintedRuns.{HasEndedEarly}
+use Rattle.store_texts.specs.Writing.{AppendsPart}
 use Rattle.program.specs.Runs.{FailureIsReported, IsCutShort, IsCutShortText, IsRunOf}
 use Rattle.program.specs.Runs.{IsScriptThat, RunEnds, RunEndsAs, RunFailsSo, RunHasFailed}
 

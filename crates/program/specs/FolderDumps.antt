@@ -5,7 +5,7 @@ use Rattle.dir_disk.specs.declared.folder.DirDisk.{DirDisk}
 use Rattle.dir_disk.specs.declared.unchanged.Unchanged.{Unchanged}
 use Rattle.dir_disk.specs.Disks.{IsFolderAt, disk_below, may_change}
 use Rattle.lab.specs.Stop.TheVariants as stop
-use Rattle.client.specs.PrintedRuns.{AppendsPart}
+use Rattle.store_texts.specs.Writing.{AppendsPart}
 use Rattle.dumps.specs.declared.dump_error.DumpError.{DumpError}
 use Rattle.dumps.specs.Dumped.{BeginsStoreOf, IsSomeBegun, IsSomeDump, LeavesDevice, WritesStoreOf}
 use Rattle.program.specs.declared.folder_failure.DumpFailure.{DumpFailure}

@@ -17,7 +17,8 @@ use Rattle.lab.specs.declared.world.World.{World}
 use Rattle.client.specs.declared.run_error.RunError.{RunError}
 use Rattle.client.specs.declared.run_error.RunError.TheVariants as run
 use Rattle.client.specs.declared.statement_result.StatementResult.{StatementResult}
-use Rattle.client.specs.PrintedRuns.{AppendsPart, HasEndedEarly, HasRunStatements}
+use Rattle.client.specs.PrintedRuns.{HasEndedEarly, HasRunStatements}
+use Rattle.store_texts.specs.Writing.{AppendsPart}
 use Rattle.client.specs.ReportedRuns.{ReportIsCut, ReportIsPrinted}
 use Rattle.client.specs.ScriptRuns.{Stretch}
 use Rattle.client.specs.Text.{run_text}

@@ -13,7 +13,8 @@ use Rattle.scripts.specs.Scripts.{IsScript}
 use Rattle.scripts.specs.Faults.{script_fault, start}
 use Rattle.program.specs.Failures.{IsFailureOf, failure_line}
 use Rattle.program.specs.Invocations.{usage_line}
-use Rattle.client.specs.PrintedRuns.{AppendsPart, HasEndedEarly, IsPrintedRun}
+use Rattle.client.specs.PrintedRuns.{HasEndedEarly, IsPrintedRun}
+use Rattle.store_texts.specs.Writing.{AppendsPart}
 
 -- a world over disks in memory has run the statements, and exactly their text was written
 pub record IsRunOf (setup : Setup) (statements : List Statement) (old new : Option (List ℕ))

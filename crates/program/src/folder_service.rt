@@ -1,7 +1,7 @@
 //! Runs in folders and what is written of one, from paths and streams to the exit status.
 ghost use Rattle.std.specs.Prelude.{◌≡◌, ◌≢◌, ℕ, List, false, map, codes, MatchResult};
 ghost use Rattle.std.specs.Prelude.{Some, None};
-ghost use Rattle.client.specs.PrintedRuns.{AppendsPart};
+ghost use Rattle.store_texts.specs.Writing.{AppendsPart};
 ghost use Rattle.program.specs.FolderFailures.{dump_failure_line, loop_failure_line};
 ghost use Rattle.program.specs.FolderDumps.{DumpEndsFor, DumpOrUsage};
 ghost use Rattle.program.specs.FolderRuns.{LoopEnds, LoopEndsFor, LoopOrUsage, stopped_status};
@@ -15,7 +15,6 @@ use crate::folder_run::run_in_folders;
 use crate::invocation::{WordsError, loop_request, path_request};
 use crate::service::{LINE, refuse};
 use arrayvec::ArrayVec;
-use client::print;
 use dir_disk::{DirDisk, Unchanged};
 use disk::Disk;
 use std::alloc::Global;
@@ -23,6 +22,7 @@ use std::fs::{File, OpenOptions};
 use std::io::{self, Read, Write};
 use std::net::{Net, TcpListener, TcpStream};
 use std::rt::Files;
+use store_texts::print;
 
 /// Runs a script at nodes in the folders of this one, and answers the status: 1 also where a node
 /// stopped by itself, of which the run has printed a line. The script `-` is standard input.

@@ -4,7 +4,7 @@ ghost use Rattle.std.specs.Prelude.{IfOk, OnOk, OnErr};
 ghost use Rattle.std.specs.Io.KnownBytes.{Appends};
 ghost use Rattle.program.specs.Failures.{failure_line};
 ghost use Rattle.program.specs.Invocations.{has_option, lab_script, usage_line};
-ghost use Rattle.client.specs.PrintedRuns.{AppendsPart};
+ghost use Rattle.store_texts.specs.Writing.{AppendsPart};
 ghost use Rattle.program.specs.Runs.{FailureIsReported, LabOrUsage};
 ghost use Rattle.program.specs.Runs.{RunEnds, RunEndsAs, UsageIsReported};
 
@@ -12,11 +12,11 @@ use crate::failure::Failure;
 use crate::invocation::{Invocation, WordsError, invocation_of};
 use crate::run_input::run_input;
 use arrayvec::ArrayVec;
-use client::print;
 use std::alloc::Global;
 use std::fs::OpenOptions;
 use std::io::{self, Read, Write};
 use std::rt::Files;
+use store_texts::print;
 
 /// The line for words that ask for nothing.
 const USAGE: &str = "usage: chainstore lab SCRIPT | loop SCRIPT --dir D | dump DIR\n";

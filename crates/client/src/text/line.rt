@@ -5,10 +5,10 @@ ghost use Rattle.client.specs.Text.{started_text, stopped_text};
 
 use super::names::{cause_name, reason_name, refusal_name, tended_name};
 use super::rows::RowsText;
-use super::spelled::Spelled;
 use kv_types::Number;
 use lab::{Epoch, KeptReply, Line, NodeId, Reply, ReplyForm, Stop};
 use std::fmt;
+use store_texts::Spelled;
 
 #[derive(Clone, Copy)]
 struct ReplyText<'a>(&'a Reply);

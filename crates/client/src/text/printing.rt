@@ -3,17 +3,17 @@ ghost use Rattle.std.specs.Prelude.{◌≡◌, ◌++◌, map, replicate, string_
 ghost use Rattle.std.specs.List.{flat_map};
 ghost use Rattle.client.specs.Text.{line_of_request, reply_place, line_output};
 ghost use Rattle.client.specs.Text.{step_text, note_text, result_text, request_of};
-ghost use Rattle.client.specs.Text.{line_text, numbered_line, printed_row, rows_of_line};
+ghost use Rattle.client.specs.Text.{line_text, numbered_line, rows_of_line};
 ghost use Rattle.client.specs.Text.{rows_of_reply};
+ghost use Rattle.store_texts.specs.Texts.{printed_row};
 
 use super::line::{LineText, StoppedText};
 use super::names::error_name;
-use super::rows::RowText;
-use super::shown::NumbersText;
 use crate::statement_result::{Note, StatementResult};
 use kv_types::Row;
 use lab::{KeptReply, Line, Lines, Reply, ReplyForm};
 use std::alloc::AllocError;
+use store_texts::{NumbersText, RowText};
 
 /// Adds the places of a statement's events, which stand at its line.
 pub fn add_event_lines(places: &mut Vec<u32>, line: u32, count: usize) -> Result<(), AllocError>

@@ -1,24 +1,9 @@
-//! The text of an answer of rows.
+//! The text of how many rows an answer has.
 ghost use Rattle.std.specs.Prelude.{◌≡◌, Some};
-ghost use Rattle.client.specs.Text.{more_text, printed_row, rows_text};
+ghost use Rattle.client.specs.Text.{more_text, rows_text};
 
-use super::spelled::Spelled;
-use kv_types::{Number, Page, Row};
+use kv_types::{Number, Page};
 use std::fmt;
-
-/// A row, as it is printed.
-#[derive(Clone, Copy)]
-pub struct RowText<'a>(pub &'a Row);
-
-impl fmt::Display for RowText<'_> {
-    ghost output = { λ it. Some (printed_row it.0.now) };
-
-    fn fmt<W: fmt::Write>(&self, f: &mut fmt::Formatter<W>) -> fmt::Result {
-        let key = Spelled(self.0.key());
-        let value = Spelled(self.0.value());
-        write!(f, "row {key}={value}")
-    }
-}
 
 // What is said where rows were left.
 fn more_name(more: bool) -> &'static str

@@ -7,7 +7,7 @@ use Rattle.kv_types.specs.{BatchContent}
 use Rattle.kv_types.specs.Pages.{page_of}
 use Rattle.engine.specs.{IsReadable, LookUps}
 use Rattle.node.specs.declared.stop.Stop.TheVariants as stop
-use Rattle.client.specs.PrintedRuns.{AppendsPart}
+use Rattle.store_texts.specs.Writing.{AppendsPart}
 use Rattle.dumps.specs.declared.dump_error.DumpError.TheVariants.{Store, Write}
 use Rattle.dumps.specs.Dumped.{AreWritten, ShowsList, row_line}
 use Rattle.dumps.specs.Walks.{all_from}

@@ -1,5 +1,5 @@
-use Rattle.client.proofs.Fronts.{plain_text, is_read}
-use Rattle.client.proofs.text.spelled.plain_front.Goals as goal
+use Rattle.store_texts.proofs.Fronts.{plain_text, is_read}
+use Rattle.store_texts.proofs.spelled.plain_front.Goals as goal
 
 pub unwrap-requires : goal.unwrap-requires
 unwrap-requires c =

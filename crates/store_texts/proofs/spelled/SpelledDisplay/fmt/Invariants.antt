@@ -2,7 +2,7 @@ use Rattle.std.proofs.Common.{◌≡◌, ◌++◌, ℕ, List, length}
 use Rattle.std.specs.Fmt.{HasWritten, IsPlainFormatter}
 use Rattle.std.specs.List.{flat_map}
 use Rattle.script_words.specs.Words.{byte_text}
-use Rattle.client.proofs.text.spelled.SpelledDisplay.fmt.Given as goal
+use Rattle.store_texts.proofs.spelled.SpelledDisplay.fmt.Given as goal
 
 -- the text of the bytes so far is written, and that of the rest is left
 abbrev pub invariant-loop-rest : goal.invariant-loop-rest

@@ -3,7 +3,7 @@ use Rattle.std.proofs.Common.{◌≡◌, ◌≤◌, ◌+◌, ◌-◌, ℕ, List,
 use Rattle.std.proofs.Common.{sym, ap, subst, ◌∙◌}
 use Rattle.std.specs.Io.KnownBytes.{Appends}
 use lib.Seq.{take-add, take-take}
-use Rattle.client.proofs.Printed.{appends_more}
+use Rattle.store_texts.specs.WritingLemmas.{appends_more}
 
 -- more of the bytes are written
 pub writes_more : (old mid new : Option (List ℕ)) (bytes : List ℕ) (done count : ℕ)

@@ -1,9 +1,9 @@
 use Rattle.std.proofs.Common.{◌≡◌, ◌++◌, false, get_or, rules}
 use Rattle.std.proofs.Output.{has_written_of_eq, has_written_append}
 use Rattle.script_words.specs.Words.{is_plain, byte_text}
-use Rattle.client.proofs.Escape.{escape_text}
-use Rattle.client.proofs.Fronts.{wrote_front, wrote_byte, first_other}
-use Rattle.client.proofs.text.spelled.SpelledDisplay.fmt.Goals as goal
+use Rattle.store_texts.proofs.Escape.{escape_text}
+use Rattle.store_texts.proofs.Fronts.{wrote_front, wrote_byte, first_other}
+use Rattle.store_texts.proofs.spelled.SpelledDisplay.fmt.Goals as goal
 
 pub loop-rest-preserved-then-is_empty-2 : goal.loop-rest-preserved-then-is_empty-2
 loop-rest-preserved-then-is_empty-2 g c = λ plain.

@@ -1,8 +1,8 @@
 use Rattle.std.proofs.Common.{take}
 use Rattle.std.specs.Fmt.{HasWritten, IsPlainFormatter}
 use Rattle.std.specs.List.{flat_map}
-use Rattle.client.specs.Text.{spaced}
-use Rattle.client.proofs.text.shown.TableCountsDisplay.fmt.Given as goal
+use Rattle.store_texts.specs.Texts.{spaced}
+use Rattle.store_texts.proofs.numbers.TableCountsDisplay.fmt.Given as goal
 
 -- the counts so far are written
 abbrev pub invariant-loop-count : goal.invariant-loop-count

@@ -1,7 +1,7 @@
 use Rattle.std.proofs.Common.{arith}
 use Rattle.std.proofs.lemmas.Grind.{common_steps}
-use Rattle.client.proofs.Written.{writes_more}
-use Rattle.client.proofs.writing.write_text.Goals as goal
+use Rattle.store_texts.proofs.Written.{writes_more}
+use Rattle.store_texts.proofs.writing.write_text.Goals as goal
 
 pub loop-preserved : goal.loop-preserved
 loop-preserved g c =

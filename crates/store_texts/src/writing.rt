@@ -1,7 +1,7 @@
 //! Bytes go out whole, or else a beginning of them.
 ghost use Rattle.std.specs.Prelude.{◌≤◌, length, take, OnOk, OnErr, IfOk};
 ghost use Rattle.std.specs.Io.KnownBytes.{Appends, Keeps};
-ghost use Rattle.client.specs.PrintedRuns.{AppendsPart};
+ghost use Rattle.store_texts.specs.Writing.{AppendsPart};
 
 use std::io::{self, ErrorKind, Write};
 

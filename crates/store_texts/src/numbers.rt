@@ -1,9 +1,10 @@
 //! The text of a node's numbers.
 ghost use Rattle.std.specs.Prelude.{◌≡◌, Some};
 ghost use Rattle.std.specs.List.{flat_map};
-ghost use Rattle.client.specs.Text.{counts_text, kept_text, numbers_text, spaced, store_text};
+ghost use Rattle.store_texts.specs.Texts.{counts_text, kept_text, numbers_text, spaced, store_text};
 
-use lab::{NodeId, Numbers};
+use configurations::NodeId;
+use node::Numbers;
 use std::fmt;
 
 // How many tables each level has.

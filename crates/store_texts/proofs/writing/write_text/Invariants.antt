@@ -1,6 +1,6 @@
 use Rattle.std.proofs.Common.{◌≤◌, length, take}
 use Rattle.std.specs.Io.KnownBytes.{Appends}
-use Rattle.client.proofs.writing.write_text.Given as goal
+use Rattle.store_texts.proofs.writing.write_text.Given as goal
 
 -- a beginning is written
 abbrev pub invariant-loop : goal.invariant-loop
