@@ -1,8 +1,8 @@
 """The files of a node's folder in plain Python, written from docs/FORMATS.md and not from the code:
 slots with their edits, logs with their batches, tables with filter and index.
 
-What is not as the page says raises `Damage`, with the place where it was met; a slot of the old format
-that counts raises `OldFormat`. A stored key is the byte of its space and the key behind it.
+What is not as the page says raises `Damage`, with the place where it was met. A stored key is the byte
+of its space and the key behind it.
 """
 
 import collections
@@ -11,9 +11,11 @@ import hashlib
 GREATEST = 2**63 - 1
 LONGEST_KEY, LONGEST_VALUE, LONGEST_BATCH, MOST_EDITS = 1_024, 16_384, 65_536, 256
 MOST_IDS, LAST_EPOCH, DEEPEST, MOST_LINES = 16, 15, 6, 4_096
-MOST_DATA, FOOTER, DIGEST, FORMAT, MAGIC = 2**33, 52, 8, 2, b"CRLSMT01"
-# Where the log of a slot begins, and that of a slot of the old format.
-HEAD, OLD_HEAD = 13, 11
+MOST_DATA, FOOTER, DIGEST, MAGIC = 2**33, 52, 8, b"CRLSMT01"
+# The formats of tables and slots: in the first each key is a row's, and stands without its space.
+FIRST, SECOND = 1, 2
+# Where the log of a slot begins, by its format.
+HEADS = {FIRST: 11, SECOND: 13}
 ROWS, MARKS = b"\0", b"\1"
 
 # A client's mark, and a batch: a mark or None, and edits as pairs of which a deletion has no value.
@@ -31,10 +33,6 @@ Entry = collections.namedtuple("Entry", "key number value")
 
 class Damage(Exception):
     """Bytes that are not as the formats say."""
-
-
-class OldFormat(Exception):
-    """The slot that counts is of the old format."""
 
 
 def expect(holds, text):
@@ -67,8 +65,10 @@ class Fields:
         """The next bytes behind their length."""
         return self.take(self.number(2, f"the length of {name}", most=most))
 
-    def stored(self, name):
-        """The next stored key."""
+    def stored(self, name, kind=SECOND):
+        """The next stored key, as a file of this format spells it."""
+        if kind == FIRST:
+            return ROWS + self.text(LONGEST_KEY, name)
         space = self.number(1, f"the space of {name}", most=1)
         return bytes([space]) + self.text(LONGEST_KEY, name)
 
@@ -141,8 +141,8 @@ def list_of(fields, name, item):
     return [item() for _ in range(fields.number(2, name))]
 
 
-def edit_of(content, place):
-    """The edit that this record of a slot is, the one in this place of the slot's edits."""
+def edit_of(content, place, kind):
+    """The edit that this record of a slot of this format is, the one in this place of its edits."""
     fields = Fields(content, f"edit {place}")
 
     def file():
@@ -159,8 +159,8 @@ def edit_of(content, place):
             level(),
             file(),
             fields.number(8, "the length of a table", most=GREATEST),
-            fields.stored("a least key"),
-            fields.stored("a greatest key"),
+            fields.stored("a least key", kind),
+            fields.stored("a greatest key", kind),
         )
         expect(line.least <= line.greatest, f"the keys of a table of edit {place} are out of order")
         return line
@@ -180,14 +180,14 @@ def edit_of(content, place):
     return edit
 
 
-def is_old(content):
-    """Whether this open slot is of the old format, in which the id stands where a 0 is."""
-    return content[9:OLD_HEAD] != b"\0\0"
+def format_of(content):
+    """The format of an open slot: in the first the id stands where a 0 is in the second."""
+    return SECOND if content[9:11] == b"\0\0" else FIRST
 
 
 def generation_of(content):
     """The generation in the head of an open slot."""
-    is_there = len(content) >= OLD_HEAD and (is_old(content) or len(content) >= HEAD)
+    is_there = len(content) >= max(HEADS[FIRST], HEADS[format_of(content)])
     expect(is_there, "the open slot ends before its log")
     return int.from_bytes(content[1:9], "big")
 
@@ -208,21 +208,21 @@ def slot_that_counts(first, second):
 
 
 def slot_of(content):
-    """The id and the edits of the slot that counts."""
-    if is_old(content):
-        raise OldFormat
-    node = int.from_bytes(content[OLD_HEAD:HEAD], "big")
+    """The format, the id and the edits of the slot that counts."""
+    kind = format_of(content)
+    head = HEADS[kind]
+    node = int.from_bytes(content[head - 2 : head], "big")
     expect(node > 0, "the id of the node is 0")
-    records = records_of(content, HEAD)
+    records = records_of(content, head)
     expect(records, "the slot has no edit")
-    return node, [edit_of(it, place + 1) for place, it in enumerate(records)]
+    return kind, node, [edit_of(it, place + 1, kind) for place, it in enumerate(records)]
 
 
 # ---- tables
 
 
 def filter_of(keys):
-    """The filter of these stored keys, which are different."""
+    """The filter of these keys, which are different."""
     size = max(8, (10 * len(keys) + 7) // 8)
     bits = bytearray(size)
     for key in keys:
@@ -243,25 +243,25 @@ def part_of(content, place, length, what):
     return Fields(part, what)
 
 
-def entries_of(fields):
-    """The entries of a block."""
+def entries_of(fields, kind):
+    """The entries of a block of a table of this format."""
     entries = []
     for _ in range(fields.number(4, "the number of entries", least=1)):
-        key = fields.stored("a key")
+        key = fields.stored("a key", kind)
         number = fields.number(8, "the number of an entry", most=GREATEST)
-        kind = fields.number(1, "the kind of an entry", least=1, most=2)
-        value = fields.text(LONGEST_VALUE, "a value") if kind == 1 else None
+        change = fields.number(1, "the kind of an entry", least=1, most=2)
+        value = fields.text(LONGEST_VALUE, "a value") if change == 1 else None
         entries.append(Entry(key, number, value))
     fields.end()
     return entries
 
 
-def blocks_of(content, lines, end):
+def blocks_of(content, lines, end, kind):
     """The entries of all blocks, which fill the file from its front to this place."""
     entries, behind = [], 0
     for place, length, key, number in lines:
         expect(place == behind, f"the block at {place} should be at {behind}")
-        block = entries_of(part_of(content, place, length, f"the block at {place}"))
+        block = entries_of(part_of(content, place, length, f"the block at {place}"), kind)
         expect(block[-1][:2] == (key, number), f"the block at {place} ends with another entry")
         entries, behind = entries + block, place + length
     expect(behind == end, "the blocks do not end where the filter begins")
@@ -272,13 +272,13 @@ def blocks_of(content, lines, end):
 
 
 def table_of(content):
-    """The entries of a table."""
+    """The entries of a table of either format."""
     expect(len(content) >= FOOTER, "the file is shorter than a footer")
     fields = part_of(content, len(content) - FOOTER, FOOTER, "the footer")
     index, index_length = fields.number(8, "the index's place"), fields.number(4, "its length")
     place, length = fields.number(8, "the filter's place"), fields.number(4, "its length")
     count = fields.number(8, "the number of entries")
-    fields.number(4, "the format", least=FORMAT, most=FORMAT)
+    kind = fields.number(4, "the format", least=FIRST, most=SECOND)
     expect(fields.take(len(MAGIC)) == MAGIC, "the footer has other last bytes")
     expect(place + length == index, "the index does not begin where the filter ends")
     expect(index + index_length == len(content) - FOOTER, "the footer is not behind the index")
@@ -286,14 +286,14 @@ def table_of(content):
     lines = []
     for _ in range(fields.number(4, "the number of blocks", least=1)):
         line = fields.number(8, "a block's place"), fields.number(4, "its length")
-        key = fields.stored("the key of a line")
+        key = fields.stored("the key of a line", kind)
         lines.append((*line, key, fields.number(8, "the number of a line", most=GREATEST)))
     fields.end()
-    entries = blocks_of(content, lines, place)
+    entries = blocks_of(content, lines, place, kind)
     expect(count == len(entries), f"the footer tells of {count} entries")
     fields = part_of(content, place, length, "the filter")
     bits = fields.take(fields.number(4, "the length of the filter"))
     fields.end()
-    keys = list(dict.fromkeys(it.key for it in entries))
+    keys = list(dict.fromkeys(it.key[1:] if kind == FIRST else it.key for it in entries))
     expect(bits == filter_of(keys), "the filter is not that of the keys")
     return entries

@@ -6,8 +6,7 @@ import os
 import stat
 import subprocess
 
-from folder_formats import OldFormat
-from folder_store import NotCreated, Store, files_in
+from folder_store import NotCreated, OldFormat, Store, files_in
 from lab_texts import Broken, expect
 
 # What a run ended with, and what it printed.

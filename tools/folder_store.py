@@ -7,8 +7,8 @@ It is written from that page alone, and shares nothing with the store.
 import os
 import re
 
-from folder_formats import DEEPEST, GREATEST, MOST_LINES, ROWS
-from folder_formats import Damage, batch_of, changes_of, expect, records_of, slot_of
+from folder_formats import DEEPEST, FIRST, GREATEST, MOST_LINES, ROWS
+from folder_formats import Damage, batch_of, changes_of, expect, format_of, records_of, slot_of
 from folder_formats import slot_that_counts, table_of
 
 NAME = re.compile(r"0|[1-9][0-9]*")
@@ -17,6 +17,10 @@ PLAIN = re.compile(rb"[A-Za-z0-9_.]")
 
 class NotCreated(Exception):
     """No slot is open."""
+
+
+class OldFormat(Exception):
+    """The slot that counts is of the first format."""
 
 
 def files_in(folder):
@@ -43,9 +47,9 @@ def is_part(ids, old):
 class Version:
     """Numbers, ids, logs and tables of a store, as its edits give them."""
 
-    def __init__(self, node):
-        """The empty version, of this node."""
-        self.node, self.ids, self.logs, self.tables = node, None, [], []
+    def __init__(self, kind, node):
+        """The empty version, of this node, in a slot of this format."""
+        self.kind, self.node, self.ids, self.logs, self.tables = kind, node, None, [], []
         self.next_file = self.floor = self.flushed = self.epoch = 0
 
     def change(self, edit, place):
@@ -95,13 +99,16 @@ class Version:
             expect(apart, f"edit {place}: tables {a.file} and {b.file} overlap")
 
 
-def version_in(files):
-    """The version that the slots of these files represent."""
+def version_in(files, is_old_read):
+    """The version that the slots of these files represent. One of the first format raises `OldFormat`
+    where it is not to be read."""
     slot = slot_that_counts(files.get(1), files.get(2))
     if slot is None:
         raise NotCreated
-    node, edits = slot_of(files[slot])
-    version = Version(node)
+    if format_of(files[slot]) == FIRST and not is_old_read:
+        raise OldFormat
+    kind, node, edits = slot_of(files[slot])
+    version = Version(kind, node)
     for place, edit in enumerate(edits):
         version.change(edit, place + 1)
     return version
@@ -139,11 +146,11 @@ def entries_as_named(content, line, flushed):
 class Store:
     """What the files of a node represent, and the faults that were met, each with its file."""
 
-    def __init__(self, files):
-        """Reads these files."""
+    def __init__(self, files, is_old_read=False):
+        """Reads these files, those of the first format only where they are to be read."""
         self.faults, self.batches, self.versions = [], {}, {}
         try:
-            self.version = version_in(files)
+            self.version = version_in(files, is_old_read)
         except Damage as damage:
             self.faults.append(f"the slots: {damage}")
             return

@@ -17,6 +17,7 @@ unfoldable pub use Rattle.byte_fields.specs.Readers.{many}
 pub use Rattle.byte_fields.specs.Texts.{text_bytes}
 unfoldable pub use Rattle.byte_fields.specs.Texts.{text_at}
 pub use Rattle.byte_fields.specs.Reading.{ReadsBytes}
-pub use Rattle.byte_fields.specs.StoredKeys.{IsStoredKey, StoredKey, bytes_of, key_bytes, lent_key}
-pub use Rattle.byte_fields.specs.StoredKeys.{mark_key, row_key, space_of, stored_cmp, stored_key}
-unfoldable pub use Rattle.byte_fields.specs.StoredKeys.{key_at}
+pub use Rattle.byte_fields.specs.StoredKeys.{IsKeyOf, IsStoredKey, StoredKey, bytes_of, key_bytes}
+pub use Rattle.byte_fields.specs.StoredKeys.{key_bytes_in, lent_key, mark_key, row_key, space_of}
+pub use Rattle.byte_fields.specs.StoredKeys.{stored_cmp, stored_key}
+unfoldable pub use Rattle.byte_fields.specs.StoredKeys.{key_at, key_at_in}

@@ -1,11 +1,13 @@
 -- Stored keys: those of entries, as tables, memtables and cursors order them.
-use Rattle.std.specs.Prelude.{ℕ, zero, suc, ◌≤◌, List, [], ◌∷◌, length, None}
+use Rattle.std.specs.Prelude.{◌≡◌, ℕ, zero, suc, ◌≤◌, List, [], ◌∷◌, length, None}
 use Rattle.std.specs.declared.cmp.Ordering.{Ordering}
 use Rattle.std.specs.Int.{w64, to_be_bytes}
 use Rattle.std.specs.Ordering.{nat_cmp}
 use Rattle.std.specs.Cmp.Lexicographic.{slice_cmp}
 use Rattle.byte_fields.specs.Readers.{Reader, mapped}
 use Rattle.byte_fields.specs.Texts.{text_at, text_bytes}
+use Rattle.byte_fields.specs.declared.format.Format.{Format}
+use Rattle.byte_fields.specs.declared.format.Format.TheVariants.{One, Two}
 use Rattle.byte_fields.specs.declared.stored_key.TheConstants.{MAX_KEY}
 use Rattle.byte_fields.specs.declared.space.Space.{Space}
 use Rattle.byte_fields.specs.declared.space.Space.TheVariants.{Rows, Marks}
@@ -67,3 +69,20 @@ key_at [] = None
 key_at (zero ∷ rest) = mapped (stored_key Rows) (text_at MAX_KEY) rest
 key_at (suc zero ∷ rest) = mapped (stored_key Marks) (text_at MAX_KEY) rest
 key_at (suc (suc b) ∷ rest) = None
+
+-- ---- formats
+
+-- a file of the format may have the key: in format 1 each key is that of a row
+abbrev pub IsKeyOf : Format → StoredKey → Type 0
+IsKeyOf One key = space_of key ≡ 0
+IsKeyOf Two key = Unit {0}
+
+-- a key as a file of the format spells it: format 1 leaves out the number of the space
+abbrev pub key_bytes_in : Format → StoredKey → List ℕ
+key_bytes_in One key = text_bytes (bytes_of key)
+key_bytes_in Two key = key_bytes key
+
+-- a key as a file of the format spells it, read
+unfoldable pub key_at_in : Format → Reader StoredKey
+key_at_in One bytes = mapped row_key (text_at MAX_KEY) bytes
+key_at_in Two bytes = key_at bytes

@@ -8,10 +8,11 @@ ghost use Rattle.std.specs.Ordering.{nat_cmp};
 ghost use Rattle.std.proofs.Common.{refl};
 ghost use Rattle.byte_fields.specs.{ReadsFront};
 ghost use Rattle.byte_fields.specs.Reading.{ReadsBytes};
-ghost use Rattle.byte_fields.specs.StoredKeys.{IsStoredKey, bytes_of, key_at, key_bytes, lent_key};
+ghost use Rattle.byte_fields.specs.StoredKeys.{IsStoredKey, bytes_of, key_at, key_at_in, key_bytes};
+ghost use Rattle.byte_fields.specs.StoredKeys.{lent_key};
 ghost use Rattle.byte_fields.specs.StoredKeys.{mark_key, row_key, stored_cmp, stored_key};
 
-use crate::{Space, put_text, read_text, read_u32, read_u64};
+use crate::{Format, Space, put_text, read_text, read_u32, read_u64};
 use std::alloc::{AllocError, Global};
 use std::cmp::Ordering;
 use std::marker::Model;
@@ -71,11 +72,16 @@ impl StoredKey {
         self.lent().spell_into(out)
     }
 
-    /// The key at the front of the bytes, and the bytes behind it, if there is one.
-    pub fn read_from(alloc: Global, bytes: &[u8]) -> Result<Option<(StoredKey, &[u8])>, AllocError>
-        ensures { ReadsBytes (λ x. (x.0, x.1.now)) result (key_at bytes.now) }
+    /// The key at the front of the bytes, as a file of the format spells it, and the bytes behind
+    /// it, if there is one.
+    pub fn read_from(
+        alloc: Global,
+        format: Format,
+        bytes: &[u8],
+    ) -> Result<Option<(StoredKey, &[u8])>, AllocError>
+        ensures { ReadsBytes (λ x. (x.0, x.1.now)) result (key_at_in format bytes.now) }
     {
-        match LentKey::read_from(bytes) {
+        match LentKey::read_from(format, bytes) {
             Some((key, rest)) => Ok(Some((key.to_stored(alloc)?, rest))),
             None => Ok(None),
         }
@@ -230,9 +236,28 @@ impl<'a> LentKey<'a> {
         put_text(out, self.bytes)
     }
 
-    /// The key at the front of the bytes, and the bytes behind it, if there is one.
+    /// The key at the front of the bytes, as a file of the format spells it, and the bytes behind
+    /// it, if there is one.
+    #[inline(always)]
+    #[tactic(auto, unfolding(crate::specs::StoredKeys::key_at_in))]
+    pub fn read_from(format: Format, bytes: &'a [u8]) -> Option<(LentKey<'a>, &'a [u8])>
+        ensures key { ReadsFront (λ x. (lent_key x.0, x.1.now)) result
+            (key_at_in format bytes.now) }
+        ensures limit { IfSome result (λ x. IsStoredKey (lent_key x.0)) }
+    {
+        match format {
+            Format::One => {
+                let (text, rest) = read_text(MAX_KEY, bytes)?;
+                Some((LentKey::new(Space::Rows, text), rest))
+            }
+            Format::Two => LentKey::read_spaced(bytes),
+        }
+    }
+
+    // The key at the front of the bytes, behind the number of its space.
+    #[inline(always)]
     #[tactic(auto, unfolding(crate::specs::StoredKeys::key_at))]
-    pub fn read_from(bytes: &'a [u8]) -> Option<(LentKey<'a>, &'a [u8])>
+    fn read_spaced(bytes: &'a [u8]) -> Option<(LentKey<'a>, &'a [u8])>
         ensures key { ReadsFront (λ x. (lent_key x.0, x.1.now)) result (key_at bytes.now) }
         ensures limit { IfSome result (λ x. IsStoredKey (lent_key x.0)) }
     {

@@ -4,6 +4,7 @@ use Rattle.std.proofs.Common.{IfSome, inl, inr, refl, sym, ap, subst, ◌∙◌,
 use Rattle.std.specs.declared.cmp.Ordering.TheVariants.{Greater, Less}
 use Rattle.std.specs.Ordering.{nat_cmp, ordering_reverse, ordering_then}
 use Rattle.std.specs.Cmp.Lexicographic.{nat_list_cmp_total}
+use Rattle.std.proofs.lemmas.List.Elements.{All-weaker}
 use Rattle.disk.specs.{State}
 use Rattle.byte_fields.specs.ByteOrderLemmas.{Less-below}
 use Rattle.byte_fields.specs.{IsStoredKey, StoredKey, stored_cmp}
@@ -14,8 +15,9 @@ use Rattle.merge_iter.specs.declared.Direction.TheVariants.{Forward}
 use Rattle.merge_iter.specs.{EntryPrecedes}
 use Rattle.table_format.specs.RisingLemmas.{last_among, last_of_some}
 use Rattle.table_format.specs.TablesLemmas.{length-table}
-use Rattle.table_format.specs.{AreRising, IsTableEntry, TableRepresents, block_lines, data_bytes}
-use Rattle.table_format.specs.{filter_part, index_part, last_entry}
+use Rattle.table_format.specs.{AreRising, IsEntryOf, IsTableEntry, TableRepresentsIn, block_lines}
+use Rattle.table_format.specs.{data_bytes, filter_part, index_part, last_entry}
+use Rattle.byte_fields.specs.declared.format.Format.TheVariants.{Two}
 use Rattle.table_builder.specs.declared.Finished.{Finished}
 use Rattle.table_builder.specs.{IsFinishedTable, first_entry}
 use Rattle.store_model.specs.{KeyPrecedes}
@@ -69,19 +71,19 @@ has_ends (x ∷ xs) least greatest each rising some first end =
     }
 
 -- the bytes of a table are fewer than a manifest may have
-short_table : (bytes : List ℕ) (entries : List Entry) → TableRepresents bytes entries
+short_table : (bytes : List ℕ) (entries : List Entry) → TableRepresentsIn Two bytes entries
     → length bytes < 2 ^ 63
 short_table bytes entries r =
     let filter = filter_part r.filter in
-    let index = index_part (block_lines 0 r.blocks) in
+    let index = index_part Two (block_lines Two 0 r.blocks) in
     let data_len = r.fits.data_len in
     let filter_len = r.fits.filter_len in
     let index_len = r.fits.index_len in
     omega (
       arith,
       ap length r.spelled,
-      length-table r.blocks r.filter,
-      length-append (data_bytes r.blocks) (filter ++ index),
+      length-table Two r.blocks r.filter,
+      length-append (data_bytes Two r.blocks) (filter ++ index),
       length-append filter index,
       data_len,
       filter_len,
@@ -96,8 +98,8 @@ pub finished_output : (disk : State) (level file : ℕ) (entries : List Entry) (
     → IsOutput disk level (finished_line level file done) entries
 finished_output disk level file entries done merged named f =
     let r = f.holds.represents in
-    let ends = has_ends entries done.least done.greatest r.each r.rising r.some f.least
-    f.greatest in
+    let each = All-weaker (IsEntryOf Two) IsTableEntry (λ entry is. is.limits) entries r.each in
+    let ends = has_ends entries done.least done.greatest each r.rising r.some f.least f.greatest in
     let len = f.len in
     let short = short_table f.holds.bytes entries r in
     record {

@@ -86,14 +86,25 @@ impl Lines {
         rt: &impl Abort,
         alloc: Global,
         disk: &mut D,
-        (level, file): (u8, u8),
+        place: (u8, u8),
         entries: &[OwnedEntry],
     ) {
-        let done = build(rt, alloc, disk, u64::from(file), entries);
+        let done = build(rt, alloc, disk, u64::from(place.1), entries);
+        self.put(rt, place, done.length, (&done.least, &done.greatest));
+    }
+
+    /// Adds the line of a table of this length, with this least and this greatest key.
+    pub fn put(
+        &mut self,
+        rt: &impl Abort,
+        (level, file): (u8, u8),
+        length: u64,
+        (least, greatest): (&StoredKey, &StoredKey),
+    ) {
         write(rt, &mut self.bytes, &[level, 0, 0, 0, 0, 0, 0, 0, file]);
-        write(rt, &mut self.bytes, &done.length.to_be_bytes());
-        spell(rt, &mut self.bytes, &done.least);
-        spell(rt, &mut self.bytes, &done.greatest);
+        write(rt, &mut self.bytes, &length.to_be_bytes());
+        spell(rt, &mut self.bytes, least);
+        spell(rt, &mut self.bytes, greatest);
         self.count = self.count.wrapping_add(1);
     }
 

@@ -16,4 +16,6 @@ mod merged_tables;
 #[cfg(test)]
 mod merges;
 #[cfg(test)]
+mod old_tables;
+#[cfg(test)]
 mod open_tables;

@@ -28,7 +28,7 @@ fn outputs_of(
 }
 
 /// The number of what a lookup finds, or none.
-fn found_number(
+pub fn found_number(
     rt: &impl Abort,
     alloc: Global,
     tables: &LevelTables,

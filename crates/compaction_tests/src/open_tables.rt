@@ -81,3 +81,11 @@ pub fn cursor_in(
 pub fn write<D: Disk>(rt: &impl Abort, disk: &mut D, file: u64, place: u64, bytes: &[u8]) {
     disk.write_at(file, place, bytes).expect(rt, "a write");
 }
+
+/// All bytes of the file.
+pub fn bytes_of<D: Disk>(rt: &impl Abort, alloc: Global, disk: &mut D, file: u64) -> Vec<u8> {
+    let len = disk.length(file).expect(rt, "a file");
+    let mut bytes = vec![in alloc; 0u8; len as usize].expect(rt, "memory");
+    disk.read(file, 0, &mut bytes).expect(rt, "the bytes");
+    bytes
+}

@@ -208,7 +208,7 @@ module _ {D : Type 0} (g : Ghosts D) (plan : Plan) (range : KeyRange) (a : Cache
       let one = (zip_beside (WasServed disk meant) items tables served t has).2 in
       let it = one.serves.serves in (
         subst (λ (f : ℕ). FileRepresents (meant f) t.entries) (sym one.serves.file)
-            (rw it.present it.represents),
+            (rw it.present (record { format = _; table = it.represents })),
         it.represents.some,
       )
 
@@ -334,9 +334,9 @@ module _ {D : Type 0} (g : Ghosts D) (plan : Plan) (range : KeyRange) (a : Cache
           here,
           λ i c at. (
             (suits i c at).0,
-            subst (λ (s : Slot). CursorServes s (rc_slice_items c.lines) c.place) (file i c at)
-                (are.sound i c at).1,
-            as_meant_itself (here c.file) (rc_slice_items c.lines),
+            subst (λ (s : Slot). CursorServes c.format s (rc_slice_items c.lines) c.place)
+                (file i c at) (are.sound i c at).1,
+            as_meant_itself c.format (here c.file) (rc_slice_items c.lines),
           ),
           λ i j c d x y at there in_c in_d equal.
               are.disjoint i j c d x y at there

@@ -4,6 +4,7 @@ pub mod Results
 pub mod Engines
 pub mod Openings
 pub mod Unchanged
+pub mod Upgrades
 pub mod MemoryReads
 pub mod Removals
 pub mod TestedLists

@@ -8,6 +8,7 @@ use Rattle.std.proofs.lemmas.List.Elements.{All-cons, All-nil}
 use Rattle.byte_fields.specs.{StoredKey}
 use Rattle.kv_types.specs.{Entry}
 use Rattle.disk.specs.{IsDurable, Kept, Slot, State, contents, seen}
+use Rattle.byte_fields.specs.declared.format.Format.TheVariants.{Two}
 use Rattle.sorted_table.specs.{greatest_key}
 use Rattle.version_edits.specs.declared.TableLine.{TableLine}
 use Rattle.compaction.specs.Merges.{IsOutputTable}
@@ -54,7 +55,7 @@ output_read disk level line table it = record {
   file = it.line_of.file;
   range = it.line_of.range;
   represents = some_and _ (disk line.file) it.holds.table.bytes it.holds.table.durable
-      (sym it.holds.len, it.holds.table.represents);
+      (sym it.holds.len, record { format = Two; table = it.holds.table.represents });
   least = key_is _ line.least (has_least table.entries it.holds.table.represents.some)
       it.holds.least;
   greatest = key_is _ line.greatest (has_greatest table.entries it.holds.table.represents.some)

@@ -35,10 +35,12 @@ module _ {D : Type 0} (g : Ghosts D) where
     as_is = files_ghosts.state;
     is_intact = AreIntactFiles files_ghosts;
     holds = λ meant c files. FileHolds (meant c.file);
-    is_sound = ServesMeant files_ghosts (λ c. c.file) (λ c. rc_slice_items c.lines) (λ c. c.place);
+    is_sound = ServesMeant files_ghosts (λ c. c.file) (λ c. c.format) (λ c. rc_slice_items c.lines)
+        (λ c. c.place);
     keeps = KeepsFiles files_ghosts;
     makes = MovesFiles files_ghosts;
-    suits = FileSuits files_ghosts (λ c. c.file) (λ c. rc_slice_items c.lines) (λ c. c.place);
+    suits = FileSuits files_ghosts (λ c. c.file) (λ c. c.format) (λ c. rc_slice_items c.lines)
+        (λ c. c.place);
     failures = files_ghosts.failures;
     left = λ c. steps_left (rc_slice_items c.lines) c.place;
     most = λ c. blocks_size (rc_slice_items c.lines);

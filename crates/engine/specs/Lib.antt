@@ -7,6 +7,7 @@ pub mod Snapshots
 pub mod Tends
 pub mod Engines
 pub mod Calls
+pub mod Upgrades
 -- What crates above name.
 pub use Rattle.engine.specs.Calls.{IsNewEngine, IsEngineOf, IsJustOpened, IsOldOrNewSince, IsOpened}
 pub use Rattle.engine.specs.Calls.{IsMeantEngineOf, KeepsEngine, ListFollows, ExplainsRefusal}
@@ -28,6 +29,9 @@ pub use Rattle.engine.specs.Engines.{FactsRise, RaisesFactsAtMost, least_read, w
 pub use Rattle.engine.specs.Engines.{IsTendFile, look_ups, newest_log_file, raised_facts}
 pub use Rattle.engine.specs.Engines.{table_count, with_one_more, with_committed}
 pub use Rattle.engine.specs.Engines.{with_closed, with_opened}
+pub use Rattle.manifest.specs.Holds.{SparesOthers}
+pub use Rattle.engine.specs.Upgrades.{ExplainsUpgrade, IsFoundAs, IsUpgradeRefusal, UpgradesStore}
+pub use Rattle.engine.specs.declared.upgrading.Upgraded
 -- What they name of the files of a store.
 pub use Rattle.store_tables.specs.declared.error.EngineError
 pub use Rattle.store_files.specs.declared.tended.Tended

@@ -9,7 +9,9 @@ mod merging;
 mod reading;
 mod snapshots;
 mod tending;
+mod upgrading;
 
 pub use engine::Engine;
 pub use snapshots::MAX_SNAPSHOTS;
 pub use store_files::{EngineError, Tended};
+pub use upgrading::Upgraded;

@@ -3,7 +3,7 @@
 use crate::cases::is_so;
 use crate::items::is_same;
 use crate::open_tables::bytes_of;
-use byte_fields::{LentKey, Space};
+use byte_fields::{Format, LentKey, Space};
 use disk::MemDisk;
 use sorted_table::{Builder, Finished};
 use std::alloc::Global;
@@ -74,7 +74,7 @@ fn index_of(table: &[u8]) -> Option<(&[u8], u64)> {
 fn is_good(table: &[u8], line: &IndexLine) -> bool {
     let from = line.place as usize;
     match table.get(from..from.saturating_add(line.len as usize)) {
-        Some(part) => entries_of(part).is_some(),
+        Some(part) => entries_of(Format::Two, part).is_some(),
         None => false,
     }
 }
@@ -82,7 +82,7 @@ fn is_good(table: &[u8], line: &IndexLine) -> bool {
 /// How many lines and how many good blocks the table has.
 fn counts(rt: &impl Abort, alloc: Global, table: &[u8]) -> (usize, usize) {
     let (index, filter) = index_of(table).expect(rt, "an index");
-    let lines = lines_of(alloc, index, filter).expect(rt, "lines");
+    let lines = lines_of(alloc, Format::Two, index, filter).expect(rt, "lines");
     let mut good = 0usize;
     for line in &lines {
         good = good.wrapping_add(is_good(table, line) as usize);

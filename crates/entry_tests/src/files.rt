@@ -6,7 +6,7 @@ use crate::cases::is_so;
 use crate::counts::is_count;
 use crate::items::{copy_of, is_same};
 use crate::open_tables::{with_cache, write};
-use byte_fields::{LentKey, Space};
+use byte_fields::{Format, LentKey, Space};
 use disk::{Crash, Disk, Fault, MemDisk};
 use sorted_table::CachedDisk;
 use std::alloc::Global;
@@ -64,7 +64,9 @@ fn has_block(
     file: u64,
     byte: u8,
 ) -> bool {
-    let block = files.block(alloc, file, 0, BLOCK).expect(rt, "a block");
+    let block = files
+        .block(alloc, file, 0, BLOCK, Format::Two)
+        .expect(rt, "a block");
     is_same(&block.bytes, &block_of(rt, alloc, byte))
 }
 
@@ -79,6 +81,19 @@ fn own_blocks(rt: &impl Abort, alloc: Global, blocks: usize) -> usize {
     own
 }
 
+/// Whether a kept block of format 2 is refused to a reader of format 1, and answered behind it.
+fn is_of_its_format(rt: &impl Abort, alloc: Global) -> bool {
+    let mut files = two_files(rt, alloc, 2);
+    has_block(rt, alloc, &mut files, 1, b'a');
+    let other = files.block(alloc, 1, 0, BLOCK, Format::One).err();
+    other == Some(FileError::Damaged) && has_block(rt, alloc, &mut files, 1, b'a')
+}
+
+#[test]
+fn a_block_is_kept_in_its_format(rt: HostRuntime) {
+    is_so(&rt, is_of_its_format(&rt, rt.alloc()), "another format");
+}
+
 #[test]
 fn each_file_answers_its_own_block(rt: HostRuntime) {
     is_count(&rt, own_blocks(&rt, rt.alloc(), 1), 10);
@@ -87,7 +102,7 @@ fn each_file_answers_its_own_block(rt: HostRuntime) {
 
 /// The refusal of a read of the file's first block.
 fn refusal_of(alloc: Global, files: &mut CachedDisk<MemDisk>, file: u64) -> Option<FileError> {
-    files.block(alloc, file, 0, BLOCK).err()
+    files.block(alloc, file, 0, BLOCK, Format::Two).err()
 }
 
 /// Reads both blocks, lets every call of the device fail from then on, and says whether each is
@@ -159,7 +174,7 @@ fn three_blocks(rt: &impl Abort, alloc: Global) -> CachedDisk<MemDisk> {
 fn answered(alloc: Global, files: &mut CachedDisk<MemDisk>) -> usize {
     let mut count = 0usize;
     for (place, len, key) in &BLOCKS {
-        if let Ok(block) = files.block(alloc, 1, *place, *len) {
+        if let Ok(block) = files.block(alloc, 1, *place, *len, Format::Two) {
             count = count.wrapping_add((block.bytes.get(7) == Some(key)) as usize);
         }
     }

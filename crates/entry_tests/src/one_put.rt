@@ -28,6 +28,28 @@ pub const FOOTER: &[u8] = &[
     0, 1, 0, 0, 0, 2, 67, 82, 76, 83, 77, 84, 48, 49, 84, 63, 200, 119, 222, 185, 12, 36,
 ];
 
+/// The block of format 1 of that entry.
+pub const OLD_BLOCK: &[u8] = &[
+    0, 0, 0, 1, 0, 1, 97, 0, 0, 0, 0, 0, 0, 0, 1, 1, 0, 1, 49, 176, 228, 216, 211, 250, 103, 200, 7,
+];
+
+/// The part of the filter of format 1, which holds the key without its space.
+pub const OLD_FILTER: &[u8] = &[
+    0, 0, 0, 8, 0, 12, 128, 1, 16, 0, 2, 64, 180, 15, 122, 118, 18, 42, 63, 81,
+];
+
+/// The index of format 1 of that block.
+pub const OLD_INDEX: &[u8] = &[
+    0, 0, 0, 1, 0, 0, 0, 0, 0, 0, 0, 0, 0, 0, 0, 27, 0, 1, 97, 0, 0, 0, 0, 0, 0, 0, 1, 29, 191, 61,
+    191, 75, 60, 111, 219,
+];
+
+/// The footer of format 1 behind them.
+pub const OLD_FOOTER: &[u8] = &[
+    0, 0, 0, 0, 0, 0, 0, 47, 0, 0, 0, 35, 0, 0, 0, 0, 0, 0, 0, 27, 0, 0, 0, 20, 0, 0, 0, 0, 0, 0,
+    0, 1, 0, 0, 0, 1, 67, 82, 76, 83, 77, 84, 48, 49, 131, 236, 126, 53, 92, 27, 68, 168,
+];
+
 /// The index that says that this block ends with the key at number 1.
 pub fn index_with(rt: &impl Abort, alloc: Global, key: &[u8]) -> Vec<u8> {
     let mut part = copy_of(rt, alloc, &[0, 0, 0, 1]);

@@ -4,9 +4,11 @@ use crate::cases::{holds_at, is_so};
 use crate::counts::is_count;
 use crate::entries::{entry_of, is_same_value};
 use crate::items::is_same;
-use crate::one_put::{BLOCK, FILTER, FOOTER, INDEX, joined, turned};
+use crate::one_put::{
+    BLOCK, FILTER, FOOTER, INDEX, OLD_BLOCK, OLD_FILTER, OLD_FOOTER, OLD_INDEX, joined, turned,
+};
 use crate::open_tables::{FILE, build, bytes_of, table_in, with_cache, write};
-use byte_fields::{LentKey, Space};
+use byte_fields::{Format, LentKey, Space};
 use disk::MemDisk;
 use sorted_table::{CachedDisk, FileError, Table};
 use std::alloc::Global;
@@ -148,4 +150,52 @@ fn own_values(rt: &impl Abort, alloc: Global, blocks: usize) -> usize {
 fn each_table_answers_its_own_value(rt: HostRuntime) {
     is_count(&rt, own_values(&rt, rt.alloc(), 1), 10);
     is_count(&rt, own_values(&rt, rt.alloc(), 2), 10);
+}
+
+// ---- a table of format 1
+
+/// The table of format 1 in which `1` was put at `a` by the batch with number 1.
+fn old_table(rt: &impl Abort, alloc: Global) -> Vec<u8> {
+    joined(rt, alloc, &[OLD_BLOCK, OLD_FILTER, OLD_INDEX, OLD_FOOTER])
+}
+
+/// The value that a lookup of the key finds in the table of these bytes.
+fn finds(rt: &impl Abort, alloc: Global, bytes: &[u8], key: LentKey) -> Option<Vec<u8>> {
+    let mut files = files_with(rt, alloc, bytes);
+    let table = table_in(rt, alloc, &mut files, FILE);
+    let found = table.get(alloc, &mut files, key, 1).expect(rt, "a lookup");
+    match found {
+        Some(found) => found.value,
+        None => None,
+    }
+}
+
+#[test]
+fn a_table_of_format_1_is_read(rt: HostRuntime) {
+    let alloc = rt.alloc();
+    let bytes = old_table(&rt, alloc);
+    is_count(&rt, bytes.len(), 134);
+    let mut files = files_with(&rt, alloc, &bytes);
+    let table = table_in(&rt, alloc, &mut files, FILE);
+    is_so(&rt, table.format().is_same(Format::One), "its format");
+    let row = LentKey::new(Space::Rows, b"a");
+    let found = finds(&rt, alloc, &bytes, row);
+    is_so(
+        &rt,
+        is_same_value(found.as_deref(), Some(b"1")),
+        "the value at the row",
+    );
+    let mark = LentKey::new(Space::Marks, b"a");
+    is_so(&rt, finds(&rt, alloc, &bytes, mark).is_none(), "no mark");
+}
+
+#[test]
+fn damage_of_a_table_of_format_1_is_found(rt: HostRuntime) {
+    let alloc = rt.alloc();
+    let whole = old_table(&rt, alloc);
+    is_so(&rt, !is_damaged(&rt, alloc, &whole), "the sound table");
+    for at in 0..134 {
+        let other = turned(&rt, alloc, &whole, at);
+        holds_at(&rt, at, is_damaged(&rt, alloc, &other));
+    }
 }

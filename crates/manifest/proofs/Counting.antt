@@ -6,15 +6,16 @@ use Rattle.kv_types.specs.declared.bounds.TheConstants.{MAX_NUMBER}
 use Rattle.disk.specs.{Contents}
 use Rattle.manifest.specs.declared.head.CountingSlot.{CountingSlot}
 use Rattle.manifest.specs.declared.head.OpenHead.{OpenHead}
-use Rattle.manifest.specs.declared.head.SlotFormat.{SlotFormat}
-use Rattle.manifest.specs.declared.head.SlotFormat.TheVariants as formats
-use Rattle.manifest.specs.Heads.{HasFormat, HasHead, SlotCounts}
-use Rattle.manifest.specs.Slots.{HasOldHead, IsOldStore, IsOpenSlot, IsSlot, IsSuperseded}
-use Rattle.manifest.specs.Slots.{SlotsRepresent, head_length, other_slot, slot_head}
+use Rattle.byte_fields.specs.declared.format.Format.{Format}
+use Rattle.byte_fields.specs.declared.format.Format.TheVariants as formats
+use Rattle.manifest.specs.Heads.{HasHead, SlotCounts}
+use Rattle.manifest.specs.Slots.{HasHeadIn, HasOldHead, IsOldStore, IsOpenSlot, IsSlotIn}
+use Rattle.manifest.specs.Slots.{IsSuperseded, SlotsRepresent, SlotsRepresentIn, head_length}
+use Rattle.manifest.specs.Slots.{other_slot, slot_head}
 use Rattle.manifest.proofs.Slots.{below, gate_of, not_both, some_as, some_both}
 
 -- a slot with a head of this format is open
-pub opens_by : (format : SlotFormat) (g id : ℕ) (bytes : List ℕ) → HasFormat format g id bytes
+pub opens_by : (format : Format) (g id : ℕ) (bytes : List ℕ) → HasHeadIn format g id bytes
     → IsOpenSlot g bytes
 opens_by formats.One g id bytes old = (id, inr old)
 opens_by formats.Two g id bytes head = (id, inl head)
@@ -71,26 +72,25 @@ module _ (left : Contents) (a b : CountingSlot) (p : SlotCounts a left) (q : Slo
 -- ---- of which format
 
 -- a slot that counts
-abbrev pub counting_by : SlotFormat → (slot generation id : ℕ) → Bool → CountingSlot
+abbrev pub counting_by : Format → (slot generation id : ℕ) → Bool → CountingSlot
 counting_by format slot generation id is_open = record {
   slot = slot;
   head = record { format = format; generation = generation; id = id };
   other_is_open = is_open;
 }
 
--- where slots represent records, one of format 2 counts
-pub represent_counts : (id : ℕ) (records : List (List ℕ)) (left : Contents)
-    → (r : SlotsRepresent id records left)
-    → (is_open : Bool) × SlotCounts (counting_by formats.Two r.slot r.generation id is_open) left
-represent_counts id records left r =
+-- where slots represent records in a format, one of it counts
+pub represent_counts : (format : Format) (id : ℕ) (records : List (List ℕ)) (left : Contents)
+    → (r : SlotsRepresentIn format id records left)
+    → (is_open : Bool) × SlotCounts (counting_by format r.slot r.generation id is_open) left
+represent_counts format id records left r =
     let gate = gate_of (left (other_slot r.slot)) r.generation r.other in (
       gate.0,
       record {
         one = r.one;
         limit = r.limit;
-        head = some_as (left r.slot) (IsSlot r.generation id records)
-            (λ bytes. take head_length bytes ≡ slot_head r.generation id) (λ bytes slot. slot.head)
-            r.counting;
+        head = some_as (left r.slot) (IsSlotIn format r.generation id records)
+            (HasHeadIn format r.generation id) (λ bytes slot. slot.head) r.counting;
         other = gate.1;
       },
     )
@@ -102,7 +102,36 @@ old_counts left o =
     let gate = gate_of (left (other_slot o.slot)) o.generation o.other in
     (gate.0, record { one = o.one; limit = o.limit; head = o.counting; other = gate.1 })
 
+-- bytes begin with a head of one format
+one_format : (format other : Format) (g h id next : ℕ) (bytes : List ℕ)
+    → HasHeadIn format g id bytes → HasHeadIn other h next bytes → format ≡ other
+one_format formats.One formats.One g h id next bytes a b = refl
+one_format formats.One formats.Two g h id next bytes a b =
+    absurd (not_both h next g id bytes b a)
+one_format formats.Two formats.One g h id next bytes a b =
+    absurd (not_both g id h next bytes a b)
+one_format formats.Two formats.Two g h id next bytes a b = refl
+
 module _ (it : CountingSlot) (left : Contents) (c : SlotCounts it left) where
+  -- slots represent records in the format of the one that counts, which has them
+  pub counted : (format : Format) (id : ℕ) (records : List (List ℕ))
+      → (r : SlotsRepresentIn format id records left)
+      → IsSomeAnd (left it.slot) (IsSlotIn format r.generation id records)
+  counted format id records r =
+      let other = represent_counts format id records left r in
+      let same : r.slot ≡ it.slot = one_counts left
+      (counting_by format r.slot r.generation id other.0) it other.1 c in
+      subst (λ (f : ℕ). IsSomeAnd (left f) (IsSlotIn format r.generation id records)) same
+      r.counting
+
+  pub counts_in : (format : Format) (id : ℕ) (records : List (List ℕ))
+      → SlotsRepresentIn format id records left → format ≡ it.head.format
+  counts_in format id records r =
+      some_both (left it.slot) (IsSlotIn format r.generation id records) (HasHead it.head)
+      (format ≡ it.head.format)
+      (λ bytes slot head. one_format format it.head.format r.generation it.head.generation id
+      it.head.id bytes slot.head head) (counted format id records r) c.head
+
   -- a slot of format 1 that counts makes an old store
   pub is_old : it.head.format ≡ formats.One → IsOldStore left
   is_old one = record {
@@ -111,8 +140,8 @@ module _ (it : CountingSlot) (left : Contents) (c : SlotCounts it left) where
     generation = it.head.generation;
     limit = c.limit;
     id = it.head.id;
-    counting = subst (λ (f : SlotFormat).
-        IsSomeAnd (left it.slot) (HasFormat f it.head.generation it.head.id)) one c.head;
+    counting = subst (λ (f : Format).
+        IsSomeAnd (left it.slot) (HasHeadIn f it.head.generation it.head.id)) one c.head;
     other = yields it left c;
   }
 
@@ -120,8 +149,8 @@ module _ (it : CountingSlot) (left : Contents) (c : SlotCounts it left) where
   pub new_head : it.head.format ≡ formats.Two → IsSomeAnd (left it.slot)
       (λ bytes. take head_length bytes ≡ slot_head it.head.generation it.head.id)
   new_head two =
-      subst (λ (f : SlotFormat).
-      IsSomeAnd (left it.slot) (HasFormat f it.head.generation it.head.id)) two c.head
+      subst (λ (f : Format).
+      IsSomeAnd (left it.slot) (HasHeadIn f it.head.generation it.head.id)) two c.head
 
   -- which makes none
   pub not_old : it.head.format ≡ formats.Two → IsOldStore left → ⊥
@@ -140,5 +169,5 @@ module _ (it : CountingSlot) (left : Contents) (c : SlotCounts it left) where
 pub old_represents_none : (id : ℕ) (records : List (List ℕ)) (left : Contents)
     → SlotsRepresent id records left → IsOldStore left → ⊥
 old_represents_none id records left r =
-    let new = represent_counts id records left r in
+    let new = represent_counts formats.Two id records left r in
     not_old (counting_by formats.Two r.slot r.generation id new.0) left new.1 refl

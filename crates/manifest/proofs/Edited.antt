@@ -13,6 +13,7 @@ use Rattle.version_edits.specs.{StoreVersion, NodeVersion, Change, empty, change
 use Rattle.version_edits.specs.{AreFit, after_all}
 use Rattle.version_edits.specs.{node_version_after}
 use Rattle.version_edits.specs.{IsFullEdit}
+use Rattle.byte_fields.specs.declared.format.Format.TheVariants as formats
 use Rattle.version_edits.specs.{IsChange, change_text}
 use Rattle.record_log.specs.declared.LogError.TheVariants as log
 use Rattle.record_log.specs.declared.LogError.{LogError}
@@ -72,7 +73,7 @@ module _ (disk : State) (manifest : Manifest) (named : NodeVersion) (one : Chang
         fit = all_fit;
         is = gives;
         records = subst (λ (r : List (List ℕ)). SlotsRepresent named.id r left)
-            (sym (map_push h.changes one)) has;
+            (sym (map_push formats.Two h.changes one)) has;
       }
 
   -- at every moment
@@ -108,7 +109,8 @@ module _ (disk : State) (manifest : Manifest) (named : NodeVersion) (one : Chang
       disk past
       (λ left now. record {
         here = inl (old_version left
-            (has_old disk manifest.slots named.id (map change_text h.changes) h.records left
+            (has_old formats.Two disk manifest.slots named.id
+            (map change_text h.changes) h.records left
             (λ slot is. now slot)));
         others = λ other apart. now other;
       })
@@ -130,7 +132,7 @@ module _ (disk : State) (manifest : Manifest) (named : NodeVersion) (one : Chang
         is = gives;
         records = subst (λ (r : List (List ℕ)). SlotsHold new later.slots named.id r)
             (ap (λ (t : List ℕ). map change_text h.changes ++ t ∷ []) same
-            ∙ sym (map_push h.changes one)) held;
+            ∙ sym (map_push formats.Two h.changes one)) held;
       }
 
 -- what the log met is told so
@@ -225,7 +227,8 @@ whole_start disk past manifest named h =
         each = h.each;
         fit = h.fit;
         is = h.is;
-        records = has_old disk manifest.slots named.id (map change_text h.changes) h.records left
+        records = has_old formats.Two disk manifest.slots named.id
+            (map change_text h.changes) h.records left
             (λ slot is. now slot);
       };
       others = λ other apart. now other;

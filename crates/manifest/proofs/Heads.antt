@@ -17,12 +17,13 @@ use Rattle.manifest.specs.declared.head.CountingSlot.{CountingSlot}
 use Rattle.manifest.specs.declared.head.Head.{Head}
 use Rattle.manifest.specs.declared.head.Head.TheVariants as heads
 use Rattle.manifest.specs.declared.head.OpenHead.{OpenHead}
-use Rattle.manifest.specs.declared.head.SlotFormat.{SlotFormat}
-use Rattle.manifest.specs.declared.head.SlotFormat.TheVariants as formats
-use Rattle.manifest.specs.Heads.{EndsBeforeLog, HasFormat, HasHead, HeadIs, HeadYields}
+use Rattle.byte_fields.specs.declared.format.Format.{Format}
+use Rattle.byte_fields.specs.declared.format.Format.TheVariants as formats
+use Rattle.manifest.specs.Heads.{EndsBeforeLog, HasHead, HeadIs, HeadYields}
 use Rattle.manifest.specs.Heads.{HeadsCount, HeadsRefuse, IsBlank, IsFilled, NoneCounts, SlotCounts}
 use Rattle.manifest.specs.Replace.{HasGate}
-use Rattle.manifest.specs.Slots.{HasOldHead, IsClosedOrAbsent, IsOpenSlot, IsSuperseded}
+use Rattle.manifest.specs.Slots.{HasHeadIn, HasOldHead, IsClosedOrAbsent, IsOpenSlot}
+use Rattle.manifest.specs.Slots.{IsSuperseded}
 use Rattle.manifest.specs.Slots.{head_length, old_head_length, old_slot_head, other_slot, slot_head}
 use Rattle.manifest.proofs.Counting.{opens, yields}
 use Rattle.manifest.proofs.Slots.{begins_more, begins_open, below, no_zero, not_closed}
@@ -66,8 +67,8 @@ module _ (behind r s : List ℕ) (g old : ℕ) (fits : IsBytes behind)
 
 -- ---- reads of the first bytes of a slot
 
-has_more : (format : SlotFormat) (g id : ℕ) (bytes rest : List ℕ) → HasFormat format g id bytes
-    → HasFormat format g id (bytes ++ rest)
+has_more : (format : Format) (g id : ℕ) (bytes rest : List ℕ) → HasHeadIn format g id bytes
+    → HasHeadIn format g id (bytes ++ rest)
 has_more formats.One g id bytes rest old =
     (old.0, begins_more old_head_length (old_slot_head g id) bytes rest refl old.1)
 has_more formats.Two g id bytes rest head =

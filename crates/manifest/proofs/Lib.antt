@@ -10,5 +10,7 @@ pub mod Counting
 pub mod Heads
 pub mod VersionIsOne
 pub mod Opened
+pub mod Causes
+pub mod Upgrades
 pub mod Outlasting
 pub mod Looks

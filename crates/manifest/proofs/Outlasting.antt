@@ -4,6 +4,7 @@ use Rattle.disk.specs.{State}
 use Rattle.record_log.specs.{LogHolds, file_of}
 use Rattle.manifest.specs.declared.slot_pair.SlotPair.{SlotPair}
 use Rattle.version_edits.specs.{change_text}
+use Rattle.byte_fields.specs.declared.format.Format.TheVariants as formats
 use Rattle.manifest.specs.Holds.{SlotsHold}
 use Rattle.manifest.specs.Laws.{HeldVersionIsLeft, HeldVersionStays}
 use Rattle.manifest.specs.Slots.{IsSlotFile, other_slot}
@@ -46,7 +47,7 @@ version_is_left disk manifest named left h outcomes = record {
   each = h.each;
   fit = h.fit;
   is = h.is;
-  records = has_old disk manifest.slots named.id
+  records = has_old formats.Two disk manifest.slots named.id
       (map change_text h.changes) h.records left outcomes;
 }
 

@@ -22,12 +22,13 @@ use Rattle.std.proofs.Common.{length}
 use Rattle.std.specs.Prelude.{IfErr}
 use Rattle.manifest.specs.declared.slot_pair.SlotPair.{SlotPair}
 use Rattle.manifest.specs.Slots.{IsSlotFile, other_slot, slot_head, head_length, IsSlot}
-use Rattle.manifest.specs.Slots.{IsSuperseded, SlotsRepresent}
+use Rattle.manifest.specs.Slots.{IsSlotIn, IsSuperseded, SlotsRepresent, SlotsRepresentIn}
 use Rattle.manifest.specs.Slots.{SlotsAreLeft}
 use Rattle.std.proofs.Common.{◌≤◌, Bool}
 use Rattle.kv_types.specs.declared.bounds.TheConstants.{MAX_NUMBER}
 use Rattle.manifest.specs.Replace.{HasGate}
-use Rattle.manifest.specs.Holds.{SlotsHold}
+use Rattle.manifest.specs.Holds.{SlotsHold, SlotsHoldIn}
+use Rattle.byte_fields.specs.declared.format.Format.{Format}
 
 -- the other slot is another
 pub others_differ : (slot : ℕ) → IsSlotFile slot → other_slot slot ≢ slot
@@ -131,31 +132,41 @@ module _ (disk : State) (slots : SlotPair) (id : ℕ) (records : List (List ℕ)
       let way : OnTheWay (Some bytes) = subst (λ (slot : Slot). OnTheWay (seen slot)) sure here in
       subst (λ (s : ℕ). take s bytes ≡ take s h.log.bytes) h.at.from way.head ∙ h.head
 
--- as it is, the slots have the records
-pub has_old : (disk : State) (slots : SlotPair) (id : ℕ) (records : List (List ℕ))
-    → SlotsHold disk slots id records → (left : Contents)
+-- as it is, the slots have the records, in the slot that counts
+pub has_old_at : (format : Format) (disk : State) (slots : SlotPair) (id : ℕ)
+    (records : List (List ℕ)) → SlotsHoldIn format disk slots id records → (left : Contents)
     → ((slot : ℕ) → IsSlotFile slot → IsFileOutcome (disk slot) (left slot))
-    → SlotsRepresent id records left
-has_old disk slots id records h left now =
-    let Q : Option (List ℕ) → Type 0 = λ l. IsSomeAnd l (IsSlot slots.generation id records) in
+    → (old : SlotsRepresentIn format id records left) × (old.slot ≡ slots.slot)
+has_old_at format disk slots id records h left now =
+    let Q : Option (List ℕ) → Type 0 =
+    λ l. IsSomeAnd l (IsSlotIn format slots.generation id records) in
     let R : Option (List ℕ) → Type 0 = λ l. IsSomeAnd l (IsSuperseded slots.generation) in
-    let slot : IsSlot slots.generation id records h.log.bytes = record {
+    let slot : IsSlotIn format slots.generation id records h.log.bytes = record {
       head = h.head;
       log = subst (λ (s : ℕ). Represents (drop s h.log.bytes) records) h.at.from h.log.stands;
     } in
     let sure : IsDurableAs disk slots.slot h.log.bytes =
-    subst (λ (f : ℕ). IsDurableAs disk f h.log.bytes) h.at.in_file h.log.sure in
-    record {
-      slot = slots.slot;
-      one = h.one;
-      generation = slots.generation;
-      limit = h.limit;
-      counting = sure_only Q h.log.bytes slot (left slots.slot)
-          (subst (λ (s : Slot). IsFileOutcome s (left slots.slot)) sure (now slots.slot h.one));
-      other = sure_only R h.other_bytes h.other (left (other_slot slots.slot))
-          (subst (λ (s : Slot). IsFileOutcome s (left (other_slot slots.slot))) h.other_sure
-          (now (other_slot slots.slot) (other_one slots.slot h.one)));
-    }
+    subst (λ (f : ℕ). IsDurableAs disk f h.log.bytes) h.at.in_file h.log.sure in (
+      record {
+        slot = slots.slot;
+        one = h.one;
+        generation = slots.generation;
+        limit = h.limit;
+        counting = sure_only Q h.log.bytes slot (left slots.slot)
+            (subst (λ (s : Slot). IsFileOutcome s (left slots.slot)) sure (now slots.slot h.one));
+        other = sure_only R h.other_bytes h.other (left (other_slot slots.slot))
+            (subst (λ (s : Slot). IsFileOutcome s (left (other_slot slots.slot))) h.other_sure
+            (now (other_slot slots.slot) (other_one slots.slot h.one)));
+      },
+      refl,
+    )
+
+pub has_old : (format : Format) (disk : State) (slots : SlotPair) (id : ℕ)
+    (records : List (List ℕ)) → SlotsHoldIn format disk slots id records → (left : Contents)
+    → ((slot : ℕ) → IsSlotFile slot → IsFileOutcome (disk slot) (left slot))
+    → SlotsRepresentIn format id records left
+has_old format disk slots id records h left now =
+    (has_old_at format disk slots id records h left now).0
 
 -- what an append that was answered leaves of the slots
 pub held_after : (disk new : State) (past since : List State) (slots later : SlotPair) (id : ℕ)

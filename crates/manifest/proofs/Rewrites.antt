@@ -8,7 +8,7 @@ use Rattle.std.specs.Int.{w32, to_be_bytes}
 use Rattle.std.proofs.Common.{Bool, true}
 use Rattle.manifest.specs.Replace.{HasGate}
 use Rattle.kv_types.specs.declared.bounds.TheConstants.{MAX_NUMBER}
-use Rattle.disk.specs.{Slot, State, Contents, IsFileOutcome, IsCrashOutcome}
+use Rattle.disk.specs.{Slot, State, Contents, IsFileOutcome}
 use Rattle.disk.specs.{IsLeftAt, LeavesSince}
 use Rattle.disk.specs.MomentsLemmas.{none_yet, weaker}
 use Rattle.disk.specs.StepsLemmas.{sure_only}
@@ -17,11 +17,15 @@ use Rattle.record_log.specs.{IsDurableAs}
 use Rattle.record_log.specs.{file_of, LogHolds, IsAt}
 use Rattle.manifest.specs.declared.slot_pair.SlotPair.{SlotPair}
 use Rattle.manifest.specs.Slots.{IsSlotFile, other_slot, slot_head, head_length, IsSlot}
-use Rattle.manifest.specs.Slots.{IsSuperseded, SlotsRepresent}
+use Rattle.manifest.specs.Slots.{IsOpenSlot, IsSlotIn, IsSuperseded, SlotsRepresent}
+use Rattle.manifest.specs.Slots.{SlotsRepresentIn, log_start}
 use Rattle.manifest.specs.Slots.{SlotsAreLeft}
-use Rattle.manifest.specs.Holds.{SlotsHold, slot_behind}
+use Rattle.manifest.specs.Holds.{SlotsHold, SlotsHoldIn, slot_behind}
+use Rattle.byte_fields.specs.declared.format.Format.{Format}
 use Rattle.manifest.proofs.Replaces.{OnTheWay}
-use Rattle.manifest.proofs.Records.{other_one, others_differ}
+use Rattle.manifest.proofs.Counting.{opens_by}
+use Rattle.manifest.proofs.Records.{has_old, has_old_at, other_one, others_differ}
+use Rattle.manifest.specs.Changes.{IsLeftByRewrite}
 use Rattle.manifest.proofs.Slots.{open_gate, yields_more}
 
 -- the other of the other slot
@@ -47,8 +51,8 @@ new_slot generation id one rest short =
       );
     }
 
-module _ (disk : State) (slots : SlotPair) (id : ℕ) (records : List (List ℕ)) (one : List ℕ)
-    (h : SlotsHold disk slots id records) (short : length one < 2 ^ 32)
+module _ (format : Format) (disk : State) (slots : SlotPair) (id : ℕ) (records : List (List ℕ))
+    (one : List ℕ) (h : SlotsHoldIn format disk slots id records) (short : length one < 2 ^ 32)
     (room : slots.generation < MAX_NUMBER) where
   abbrev next : ℕ
   next = slots.generation + 1
@@ -56,9 +60,13 @@ module _ (disk : State) (slots : SlotPair) (id : ℕ) (records : List (List ℕ)
   abbrev behind : List ℕ
   behind = slot_behind next slots.id one
 
+  -- the counting slot is open
+  opened : IsOpenSlot slots.generation h.log.bytes
+  opened = opens_by format slots.generation id h.log.bytes h.head
+
   -- a slot of these records that yields to the next generation
   record Stays (bytes : List ℕ) : Type 0 where
-    pub slot : IsSlot slots.generation id records bytes
+    pub slot : IsSlotIn format slots.generation id records bytes
     pub yields : IsSuperseded next bytes
 
   -- the counting slot stays
@@ -69,11 +77,11 @@ module _ (disk : State) (slots : SlotPair) (id : ℕ) (records : List (List ℕ)
       let file : file_of slots.log ≡ slots.slot = h.at.in_file in
       let sure : IsDurableAs disk slots.slot h.log.bytes =
       subst (λ (f : ℕ). IsDurableAs disk f h.log.bytes) file h.log.sure in
-      let log : Represents (drop head_length h.log.bytes) records =
+      let log : Represents (drop (log_start format) h.log.bytes) records =
       subst (λ (s : ℕ). Represents (drop s h.log.bytes) records) h.at.from h.log.stands in
       let stays : Stays h.log.bytes = record {
         slot = record { head = h.head; log = log };
-        yields = inr (slots.generation, omega arith, (id, inl h.head));
+        yields = inr (slots.generation, omega arith, opened);
       } in
       sure_only Q h.log.bytes stays (left slots.slot)
       (subst (λ (slot : Slot). IsFileOutcome slot (left slots.slot)) sure now)
@@ -93,7 +101,7 @@ module _ (disk : State) (slots : SlotPair) (id : ℕ) (records : List (List ℕ)
 
   -- what stays is there for both
   as_slot : (left : Option (List ℕ)) → IsSomeAnd left Stays
-      → IsSomeAnd left (IsSlot slots.generation id records)
+      → IsSomeAnd left (IsSlotIn format slots.generation id records)
   as_slot None stays = absurd stays
   as_slot (Some c) stays = stays.slot
 
@@ -101,46 +109,87 @@ module _ (disk : State) (slots : SlotPair) (id : ℕ) (records : List (List ℕ)
   as_yields None stays = absurd stays
   as_yields (Some c) stays = stays.yields
 
-  -- so the slots have the old records or the new one alone
-  pub has_either : (file : ℕ) → file ≡ other_slot slots.slot → (left : Contents)
+  -- so the slots have the old records, in the old slot, or the new one alone, in the other
+  has_either_at : (file : ℕ) → file ≡ other_slot slots.slot → (left : Contents)
       → IsLeftAt disk file (OnTheWay h.other_bytes behind) left
-      → SlotsRepresent id records left ⊎ SlotsRepresent id (one ∷ []) left
-  has_either file is left at =
+      → ((old : SlotsRepresentIn format id records left) × (old.slot ≡ slots.slot))
+      ⊎ ((new : SlotsRepresent id (one ∷ []) left) × (new.slot ≡ other_slot slots.slot)
+      × (new.generation ≡ slots.generation + 1))
+  has_either_at file is left at =
       let apart : slots.slot ≢ file =
       λ same. others_differ slots.slot h.one (sym (same ∙ is)) in
       let stays = counting left (at.others slots.slot apart) in
       let way : OnTheWay h.other_bytes behind (left (other_slot slots.slot)) =
       subst (λ (f : ℕ). OnTheWay h.other_bytes behind (left f)) is at.here in
       elim (other (left (other_slot slots.slot)) way) [
-        | inl old ↦ inl (record {
-          slot = slots.slot;
-          one = h.one;
-          generation = slots.generation;
-          limit = h.limit;
-          counting = as_slot (left slots.slot) stays;
-          other = old;
-        })
-        | inr new ↦ inr (record {
-          slot = other_slot slots.slot;
-          one = other_one slots.slot h.one;
-          generation = next;
-          limit = omega arith;
-          counting = new;
-          other = subst (λ (s : ℕ). IsSomeAnd (left s) (IsSuperseded next))
-              (sym (other_back slots.slot h.one)) (as_yields (left slots.slot) stays);
-        })
+        | inl old ↦ inl (
+          record {
+            slot = slots.slot;
+            one = h.one;
+            generation = slots.generation;
+            limit = h.limit;
+            counting = as_slot (left slots.slot) stays;
+            other = old;
+          },
+          refl,
+        )
+        | inr new ↦ inr (
+          record {
+            slot = other_slot slots.slot;
+            one = other_one slots.slot h.one;
+            generation = next;
+            limit = omega arith;
+            counting = new;
+            other = subst (λ (s : ℕ). IsSomeAnd (left s) (IsSuperseded next))
+                (sym (other_back slots.slot h.one)) (as_yields (left slots.slot) stays);
+          },
+          refl,
+          refl,
+        )
       ]
+
+  pub has_either : (file : ℕ) → file ≡ other_slot slots.slot → (left : Contents)
+      → IsLeftAt disk file (OnTheWay h.other_bytes behind) left
+      → SlotsRepresentIn format id records left ⊎ SlotsRepresent id (one ∷ []) left
+  has_either file is left at =
+      elim (has_either_at file is left at) [
+        | inl old ↦ inl old.0
+        | inr new ↦ inr new.0
+      ]
+
+  -- at every moment, and each other file is what a crash might have left
+  pub left_since : (new : State) (past since : List State) (file : ℕ)
+      → file ≡ other_slot slots.slot
+      → LeavesSince disk past new since (IsLeftAt disk file (OnTheWay h.other_bytes behind))
+      → LeavesSince disk past new since (IsLeftByRewrite format disk slots id records one)
+  left_since new past since file is run =
+      weaker (IsLeftAt disk file (OnTheWay h.other_bytes behind))
+      (IsLeftByRewrite format disk slots id records one) disk past new since
+      (λ left at. record {
+        here = has_either_at file is left at;
+        others = λ other apart. at.others other (λ same. apart (same ∙ is));
+      }) run
+
+  -- and before the first call
+  pub left_unmoved : (past : List State)
+      → LeavesSince disk past disk past (IsLeftByRewrite format disk slots id records one)
+  left_unmoved past =
+      none_yet (IsLeftByRewrite format disk slots id records one) disk past
+      (λ left now. record {
+        here = inl (has_old_at format disk slots id records h left (λ slot one. now slot));
+        others = λ other apart. now other;
+      })
 
   -- at every moment
   pub either_since : (new : State) (past since : List State) (file : ℕ)
       → file ≡ other_slot slots.slot
       → LeavesSince disk past new since (IsLeftAt disk file (OnTheWay h.other_bytes behind))
       → LeavesSince disk past new since
-      (SlotsAreLeft disk (λ left. SlotsRepresent id records left
+      (SlotsAreLeft disk (λ left. SlotsRepresentIn format id records left
       ⊎ SlotsRepresent id (one ∷ []) left))
   either_since new past since file is run =
       weaker (IsLeftAt disk file (OnTheWay h.other_bytes behind))
-      (SlotsAreLeft disk (λ left. SlotsRepresent id records left
+      (SlotsAreLeft disk (λ left. SlotsRepresentIn format id records left
       ⊎ SlotsRepresent id (one ∷ []) left))
       disk past new since
       (λ left at. record {
@@ -149,32 +198,16 @@ module _ (disk : State) (slots : SlotPair) (id : ℕ) (records : List (List ℕ)
             (λ same. apart (subst IsSlotFile (sym (same ∙ is)) (other_one slots.slot h.one)));
       }) run
 
-  -- before the first call the slots have the old records
-  pub has_old : (left : Contents) → IsCrashOutcome disk left → SlotsRepresent id records left
-  has_old left now =
-      let Q : Option (List ℕ) → Type 0 = λ l. IsSomeAnd l (IsSuperseded slots.generation) in
-      let stays = counting left (now slots.slot) in
-      record {
-        slot = slots.slot;
-        one = h.one;
-        generation = slots.generation;
-        limit = h.limit;
-        counting = as_slot (left slots.slot) stays;
-        other = sure_only Q h.other_bytes h.other (left (other_slot slots.slot))
-            (subst (λ (slot : Slot). IsFileOutcome slot (left (other_slot slots.slot))) h.other_sure
-            (now (other_slot slots.slot)));
-      }
-
-  -- so no moment has passed
+  -- before the first call no moment has passed
   pub unmoved : (past : List State) → LeavesSince disk past disk past
-      (SlotsAreLeft disk (λ left. SlotsRepresent id records left
+      (SlotsAreLeft disk (λ left. SlotsRepresentIn format id records left
       ⊎ SlotsRepresent id (one ∷ []) left))
   unmoved past =
-      none_yet (SlotsAreLeft disk (λ left. SlotsRepresent id records left
+      none_yet (SlotsAreLeft disk (λ left. SlotsRepresentIn format id records left
       ⊎ SlotsRepresent id (one ∷ []) left))
       disk past
       (λ left now. record {
-        here = inl (has_old left now);
+        here = inl (has_old format disk slots id records h left (λ slot one. now slot));
         others = λ other apart. now other;
       })
 
@@ -204,9 +237,9 @@ module _ (disk : State) (slots : SlotPair) (id : ℕ) (records : List (List ℕ)
         other_sure = subst (λ (n : ℕ). IsDurableAs new n h.log.bytes)
             (sym (ap other_slot s ∙ other_back slots.slot h.one)) (same ∙ old);
         other = subst (λ (n : ℕ). IsSuperseded n h.log.bytes) (sym g)
-            (inr (slots.generation, omega arith, (id, inl h.head)));
+            (inr (slots.generation, omega arith, opened));
         gate = subst (λ (b : Bool). HasGate b h.log.bytes) (sym o)
-            (open_gate slots.generation h.log.bytes (id, inl h.head));
+            (open_gate slots.generation h.log.bytes opened);
       }
 
   -- what the log of the new slot stands for

@@ -35,3 +35,12 @@ IsOfFiles manifest.NotCreated = ⊥
 IsOfFiles manifest.Memory = Unit {0}
 IsOfFiles manifest.Failed = ⊥
 IsOfFiles manifest.OldFormat = ⊥
+
+-- refused likewise, or since no store was created
+abbrev pub IsUpgradeError : ManifestError → Type 0
+IsUpgradeError manifest.Disk = Unit {0}
+IsUpgradeError manifest.Damaged = Unit {0}
+IsUpgradeError manifest.NotCreated = Unit {0}
+IsUpgradeError manifest.Memory = Unit {0}
+IsUpgradeError manifest.Failed = ⊥
+IsUpgradeError manifest.OldFormat = ⊥

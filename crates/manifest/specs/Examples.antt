@@ -1,7 +1,9 @@
 -- Bytes written by hand.
 use Rattle.std.specs.Prelude.{◌≡◌, List, [], ◌∷◌, ◌++◌, ℕ}
 use Rattle.byte_fields.specs.{row_key}
+use Rattle.byte_fields.specs.declared.format.Format.TheVariants as formats
 use Rattle.version_edits.specs.Edits.{table_line_bytes, table_name_bytes}
+use Rattle.version_edits.specs.declared.line.TableLine.{TableLine}
 use Rattle.manifest.specs.Holds.{first_slot}
 use Rattle.manifest.specs.Slots.{HasOldHead, IsSlot}
 
@@ -31,15 +33,23 @@ abbrev pub OldSlotIs : Type 0
 OldSlotIs = HasOldHead 1 1 old_slot × ((generation id : ℕ) (records : List (List ℕ)) →
     IsSlot generation id records old_slot → ⊥)
 
--- a table of level 2 in file 5, of 136 bytes, from key `a` to key `b`; and the same given up
-abbrev pub TableIs : Type 0
-TableIs = (table_line_bytes (record {
+-- the line of a table of level 2 in file 5, of 136 bytes, from key `a` to key `b`
+abbrev pub table_line : TableLine
+table_line = record {
   level = 2;
   file = 5;
   length = 136;
   least = row_key (97 ∷ []);
   greatest = row_key (98 ∷ []);
-}) ≡ 2 ∷ 0 ∷ 0 ∷ 0 ∷ 0 ∷ 0 ∷ 0 ∷ 0 ∷ 5 ∷ 0 ∷ 0 ∷ 0 ∷ 0 ∷ 0 ∷ 0 ∷ 0 ∷ 136
+}
+
+-- the line in format 2 and in format 1, and the same table given up
+abbrev pub TableIs : Type 0
+TableIs = (table_line_bytes formats.Two table_line
+    ≡ 2 ∷ 0 ∷ 0 ∷ 0 ∷ 0 ∷ 0 ∷ 0 ∷ 0 ∷ 5 ∷ 0 ∷ 0 ∷ 0 ∷ 0 ∷ 0 ∷ 0 ∷ 0 ∷ 136
     ∷ 0 ∷ 0 ∷ 1 ∷ 97 ∷ 0 ∷ 0 ∷ 1 ∷ 98 ∷ [])
+    × (table_line_bytes formats.One table_line
+    ≡ 2 ∷ 0 ∷ 0 ∷ 0 ∷ 0 ∷ 0 ∷ 0 ∷ 0 ∷ 5 ∷ 0 ∷ 0 ∷ 0 ∷ 0 ∷ 0 ∷ 0 ∷ 0 ∷ 136
+    ∷ 0 ∷ 1 ∷ 97 ∷ 0 ∷ 1 ∷ 98 ∷ [])
     × (table_name_bytes (record { level = 2; file = 5 })
     ≡ 2 ∷ 0 ∷ 0 ∷ 0 ∷ 0 ∷ 0 ∷ 0 ∷ 0 ∷ 5 ∷ [])

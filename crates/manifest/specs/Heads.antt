@@ -8,14 +8,12 @@ use Rattle.record_log.specs.{IsClosed}
 use Rattle.manifest.specs.declared.head.Head.{Head}
 use Rattle.manifest.specs.declared.head.Head.TheVariants as head
 use Rattle.manifest.specs.declared.head.OpenHead.{OpenHead}
-use Rattle.manifest.specs.declared.head.SlotFormat.{SlotFormat}
-use Rattle.manifest.specs.declared.head.SlotFormat.TheVariants as format
 use Rattle.manifest.specs.declared.head.CountingSlot.{CountingSlot}
 use Rattle.manifest.specs.declared.error.ManifestError.{ManifestError}
 use Rattle.manifest.specs.declared.error.ManifestError.TheVariants as manifest
 use Rattle.manifest.specs.Replace.{HasGate}
-use Rattle.manifest.specs.Slots.{HasOldHead, IsNotCreated, IsSlotFile, IsSuperseded}
-use Rattle.manifest.specs.Slots.{head_length, old_head_length, other_slot, slot_head}
+use Rattle.manifest.specs.Slots.{HasHeadIn, IsNotCreated, IsSlotFile, IsSuperseded}
+use Rattle.manifest.specs.Slots.{head_length, old_head_length, other_slot}
 
 -- ---- heads
 
@@ -25,14 +23,9 @@ IsFilled true file into =
     IsSomeAnd file (λ it. (length into ≤ length it) × (into ≡ take (length into) it))
 IsFilled false file into = IfSome file (λ it. length it < length into)
 
--- the bytes begin with a head of this format
-abbrev pub HasFormat : SlotFormat → ℕ → ℕ → List ℕ → Type 0
-HasFormat format.One generation id bytes = HasOldHead generation id bytes
-HasFormat format.Two generation id bytes = take head_length bytes ≡ slot_head generation id
-
 -- the bytes begin with this head
 abbrev pub HasHead : OpenHead → List ℕ → Type 0
-HasHead it bytes = HasFormat it.format it.generation it.id bytes
+HasHead it bytes = HasHeadIn it.format it.generation it.id bytes
 
 -- An open slot ends before its log: it is shorter than a head of format 1, or has 0 in the place of
 -- that format's id and is shorter than a head of format 2.

@@ -1,5 +1,5 @@
 -- Open slots, and the files that they are kept in.
-use Rattle.std.specs.Prelude.{◌≡◌, ◌≤◌, ◌<◌, ◌+◌, ◌*◌, ℕ, List, [], ◌∷◌, ◌++◌, length, take}
+use Rattle.std.specs.Prelude.{◌≡◌, ◌≤◌, ◌<◌, ◌+◌, ◌*◌, ℕ, List, [], ◌∷◌, ◌++◌, length}
 use Rattle.std.specs.Int.{w16, w32, w64, to_be_bytes}
 use Rattle.kv_types.specs.declared.bounds.TheConstants.{MAX_NUMBER}
 use Rattle.disk.specs.{State}
@@ -7,7 +7,9 @@ use Rattle.record_log.specs.declared.Log.{Log}
 use Rattle.record_log.specs.{IsAt, IsDurableAs, LogHolds, first_length, gate_of}
 use Rattle.manifest.specs.declared.slot_pair.SlotPair.{SlotPair}
 use Rattle.manifest.specs.declared.slot_pair.TheConstants.{REWRITE_SLACK}
-use Rattle.manifest.specs.Slots.{IsSlotFile, other_slot, slot_head, head_length, IsSuperseded}
+use Rattle.manifest.specs.Slots.{HasHeadIn, IsSlotFile, IsSuperseded, log_start, other_slot}
+use Rattle.byte_fields.specs.declared.format.Format.{Format}
+use Rattle.byte_fields.specs.declared.format.Format.TheVariants as formats
 use Rattle.manifest.specs.Replace.{HasGate}
 use Rattle.version_edits.specs.{first_version}
 use Rattle.version_edits.specs.{change_text}
@@ -20,20 +22,24 @@ slot_behind generation id one =
     to_be_bytes w64 generation ++ (to_be_bytes w16 0 ++ (to_be_bytes w16 id
     ++ (1 ∷ (to_be_bytes w32 (length one) ++ (one ++ 0 ∷ [])))))
 
--- The files are those of the slots: the counting one holds the records behind its head, and a crash
--- leaves both as they are.
-pub record SlotsHold (disk : State) (slots : SlotPair) (id : ℕ) (records : List (List ℕ))
-    : Type 0 where
+-- The files are those of the slots: the counting one, of this format, holds the records behind its
+-- head, and a crash leaves both as they are.
+pub record SlotsHoldIn (format : Format) (disk : State) (slots : SlotPair) (id : ℕ)
+    (records : List (List ℕ)) : Type 0 where
   pub one : IsSlotFile slots.slot
   pub is_id : slots.id ≡ id
   pub limit : slots.generation ≤ MAX_NUMBER
-  pub at : IsAt slots.slot head_length slots.log
+  pub at : IsAt slots.slot (log_start format) slots.log
   pub log : LogHolds disk slots.log records
-  pub head : take head_length log.bytes ≡ slot_head slots.generation id
+  pub head : HasHeadIn format slots.generation id log.bytes
   pub other_bytes : List ℕ
   pub other_sure : IsDurableAs disk (other_slot slots.slot) other_bytes
   pub other : IsSuperseded slots.generation other_bytes
   pub gate : HasGate slots.other_is_open other_bytes
+
+-- the counting one is of format 2
+abbrev pub SlotsHold : State → SlotPair → ℕ → List (List ℕ) → Type 0
+SlotsHold disk slots id records = SlotsHoldIn formats.Two disk slots id records
 
 -- A rewrite of the slot with this log is due. Up to its closed gate, the slot is longer than twice
 -- its first record and the slack.

@@ -4,6 +4,7 @@ pub mod Replace
 pub mod Slots
 pub mod Holds
 pub mod Manifests
+pub mod Upgrades
 pub mod Changes
 pub mod Heads
 pub mod Opening
@@ -20,7 +21,8 @@ pub use Rattle.version_edits.specs.{IsTableLine, IsVersion, NodeVersion, StoreVe
 pub use Rattle.version_edits.specs.{change_text, changed, first_version, node_version_after}
 pub use Rattle.manifest.specs.Changes.{IsBeforeOrAfter}
 pub use Rattle.manifest.specs.Creations.{FindsWhether, HasOnlyCreationFiles, OnlyLooks, WasCutShort}
-pub use Rattle.manifest.specs.Laws.{HeldVersionIsLeft, HeldVersionStays, VersionIsOne}
+pub use Rattle.manifest.specs.Laws.{FormatsAreApart, HeldVersionIsLeft, HeldVersionStays}
+pub use Rattle.manifest.specs.Laws.{VersionIsOne, VersionsAreLawfulIn}
 pub use Rattle.manifest.specs.Laws.{OldStoresAreApart, VersionsAreLawful}
 pub use Rattle.manifest.specs.Holds.{first_slot}
 pub use Rattle.manifest.specs.Manifests.{HasFirstSlots, HasFullSlot, HasLongSlot, HasSameSlots}
@@ -30,5 +32,9 @@ pub use Rattle.manifest.specs.Manifests.{ManifestHasNoRoom, ManifestHolds, NoRoo
 pub use Rattle.manifest.specs.Manifests.{SlotsReachGates, counting_file, first_edit_length}
 pub use Rattle.manifest.specs.Manifests.{generation_of, slot_length, spare_file, version_of}
 pub use Rattle.manifest.specs.Slots.{IsNotCreated, IsOldStore, IsSlot, IsSlotFile, IsSuperseded}
-pub use Rattle.manifest.specs.Slots.{ManifestRepresents, SlotsAreLeft, SlotsRead, SlotsRepresent}
-pub use Rattle.manifest.specs.Slots.{other_slot}
+pub use Rattle.manifest.specs.Slots.{IsSlotIn, ManifestRepresents, ManifestRepresentsIn}
+pub use Rattle.manifest.specs.Slots.{ManifestRepresentsInEither, SlotsAreLeft, SlotsRead}
+pub use Rattle.manifest.specs.Slots.{SlotsRepresent, SlotsRepresentIn, other_slot}
+pub use Rattle.manifest.specs.Errors.{IsUpgradeError}
+pub use Rattle.manifest.specs.Upgrades.{IsLeftOfUpgrade, IsLeftUpgrading, IsOfFormatTwo, IsUpgraded}
+pub use Rattle.manifest.specs.Upgrades.{IsUpgradeOf, LacksGeneration, UpgradeRefusal}

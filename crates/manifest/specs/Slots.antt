@@ -7,7 +7,9 @@ use Rattle.configurations.specs.{IsId}
 use Rattle.disk.specs.{State, Contents, IsFileOutcome, seen}
 use Rattle.record_log.specs.{IsClosed, Represents}
 use Rattle.version_edits.specs.{NodeVersion, Change, empty, AreFit, after_all}
-use Rattle.version_edits.specs.{IsChange, change_text}
+use Rattle.version_edits.specs.{IsChangeIn, change_text_in}
+use Rattle.byte_fields.specs.declared.format.Format.{Format}
+use Rattle.byte_fields.specs.declared.format.Format.TheVariants as formats
 
 -- ---- slots of records
 
@@ -19,11 +21,6 @@ head_length = 13
 abbrev pub slot_head : ℕ → ℕ → List ℕ
 slot_head generation id =
     1 ∷ to_be_bytes w64 generation ++ to_be_bytes w16 0 ++ to_be_bytes w16 id
-
--- an open slot of this generation, with these records
-pub record IsSlot (generation id : ℕ) (records : List (List ℕ)) (bytes : List ℕ) : Type 0 where
-  pub head : take head_length bytes ≡ slot_head generation id
-  pub log : Represents (drop head_length bytes) records
 
 -- where the log of a slot of format 1 begins
 abbrev pub old_head_length : ℕ
@@ -37,6 +34,26 @@ old_slot_head generation id = 1 ∷ to_be_bytes w64 generation ++ to_be_bytes w1
 abbrev pub HasOldHead : ℕ → ℕ → List ℕ → Type 0
 HasOldHead generation id bytes =
     IsId id × (take old_head_length bytes ≡ old_slot_head generation id)
+
+-- the bytes begin with a head of this format
+abbrev pub HasHeadIn : Format → ℕ → ℕ → List ℕ → Type 0
+HasHeadIn formats.One generation id bytes = HasOldHead generation id bytes
+HasHeadIn formats.Two generation id bytes = take head_length bytes ≡ slot_head generation id
+
+-- where the log of a slot of this format begins
+abbrev pub log_start : Format → ℕ
+log_start formats.One = old_head_length
+log_start formats.Two = head_length
+
+-- an open slot of this format and generation, with these records
+pub record IsSlotIn (format : Format) (generation id : ℕ) (records : List (List ℕ))
+    (bytes : List ℕ) : Type 0 where
+  pub head : HasHeadIn format generation id bytes
+  pub log : Represents (drop (log_start format) bytes) records
+
+-- one of format 2, as it is written
+abbrev pub IsSlot : ℕ → ℕ → List (List ℕ) → List ℕ → Type 0
+IsSlot generation id records bytes = IsSlotIn formats.Two generation id records bytes
 
 -- an open slot of this generation, of either format
 abbrev pub IsOpenSlot : ℕ → List ℕ → Type 0
@@ -57,14 +74,19 @@ IsSlotFile slot = (slot ≡ 1) ⊎ (slot ≡ 2)
 abbrev pub other_slot : ℕ → ℕ
 other_slot slot = 3 - slot
 
--- one slot counts, with these records, and the other yields
-pub record SlotsRepresent (id : ℕ) (records : List (List ℕ)) (left : Contents) : Type 0 where
+-- one slot counts, of this format and with these records, and the other yields
+pub record SlotsRepresentIn (format : Format) (id : ℕ) (records : List (List ℕ))
+    (left : Contents) : Type 0 where
   pub slot : ℕ
   pub one : IsSlotFile slot
   pub generation : ℕ
   pub limit : generation ≤ MAX_NUMBER
-  pub counting : IsSomeAnd (left slot) (IsSlot generation id records)
+  pub counting : IsSomeAnd (left slot) (IsSlotIn format generation id records)
   pub other : IsSomeAnd (left (other_slot slot)) (IsSuperseded generation)
+
+-- one slot of format 2 counts, with these records
+abbrev pub SlotsRepresent : ℕ → List (List ℕ) → Contents → Type 0
+SlotsRepresent id records left = SlotsRepresentIn formats.Two id records left
 
 -- The slot that counts is of format 1, and the other is superseded. What is behind its head means
 -- nothing.
@@ -89,16 +111,26 @@ pub record SlotsAreLeft (disk : State) (P : Contents → Type 0) (left : Content
 
 -- ---- the version
 
--- The slots represent this version of a node. The version is that after their edits, each of which
--- the version before it may take.
-pub record ManifestRepresents (named : NodeVersion) (left : Contents) : Type 0 where
+-- The slots represent this version of a node in a format. The version is that after their edits,
+-- each of which the version before it may take.
+pub record ManifestRepresentsIn (format : Format) (named : NodeVersion) (left : Contents)
+    : Type 0 where
   pub id : IsId named.id
   pub changes : List Change
   pub some : changes ≢ []
-  pub each : All IsChange changes
+  pub each : All (IsChangeIn format) changes
   pub fit : AreFit empty changes
   pub is : named.version ≡ after_all empty changes
-  pub records : SlotsRepresent named.id (map change_text changes) left
+  pub records : SlotsRepresentIn format named.id (map (change_text_in format) changes) left
+
+-- they represent it in format 2, the one that is opened
+abbrev pub ManifestRepresents : NodeVersion → Contents → Type 0
+ManifestRepresents named left = ManifestRepresentsIn formats.Two named left
+
+-- they represent it in format 1 or in format 2
+abbrev pub ManifestRepresentsInEither : NodeVersion → Contents → Type 0
+ManifestRepresentsInEither named left =
+    (format : Format) × ManifestRepresentsIn format named left
 
 -- no slot is open
 abbrev pub IsClosedOrAbsent : Option (List ℕ) → Type 0

@@ -6,25 +6,19 @@ ghost use Rattle.kv_types.specs.declared.bounds.TheConstants.{MAX_NUMBER};
 ghost use Rattle.manifest.specs.declared.error.ManifestError.TheVariants.{Disk, Memory};
 ghost use Rattle.manifest.specs.Heads.{EndsBeforeLog, HasHead, HeadIs, HeadsCount, HeadsRefuse};
 ghost use Rattle.manifest.specs.Heads.{IsFilled, NoneCounts, SlotCounts};
+ghost use Rattle.manifest.specs.Errors.{IsUpgradeError};
 ghost use Rattle.manifest.specs.Reads.{SlotsAreRead};
 ghost use Rattle.manifest.specs.Slots.{IsSlotFile, SlotsRead};
 
 use crate::ManifestError;
-use byte_fields::{read_u16, read_u64};
+use byte_fields::{Format, read_u16, read_u64};
 use disk::{Disk, DiskError};
 use kv_types::bounds::MAX_NUMBER;
-
-/// The format of a slot. Of format 1 none is written.
-#[derive(Clone, Copy)]
-pub enum SlotFormat {
-    One,
-    Two,
-}
 
 /// The head of an open slot that reaches to its log: its format, generation, and the node's id.
 #[derive(Clone, Copy)]
 pub struct OpenHead {
-    pub format: SlotFormat,
+    pub format: Format,
     pub generation: u64,
     pub id: u16,
 }
@@ -70,14 +64,14 @@ fn open_head(behind: &[u8]) -> Option<OpenHead>
     let (old_id, behind) = read_u16(behind)?;
     if old_id != 0 {
         return Some(OpenHead {
-            format: SlotFormat::One,
+            format: Format::One,
             generation,
             id: old_id,
         });
     }
     let (id, _log) = read_u16(behind)?;
     Some(OpenHead {
-        format: SlotFormat::Two,
+        format: Format::Two,
         generation,
         id,
     })
@@ -173,6 +167,7 @@ pub fn counting_slot<D: Disk>(disk: &mut D) -> Result<CountingSlot, ManifestErro
     ensures counts { (left : Contents) → D.is_honest disk.old → SlotsRead (D.state disk.old) left →
         MatchResult result (λ it. SlotCounts it left)
         (λ e. IsEnvironmental Disk Memory e ⊎ NoneCounts e left) }
+    ensures causes { IfErr result IsUpgradeError }
 {
     let first = head_of(disk, 1)?;
     let second = head_of(disk, 2)?;

@@ -2,8 +2,9 @@
 //! laws.
 ghost use Rattle.manifest.specs.Examples.{FirstSlotIs, OldSlotIs, TableIs};
 ghost use Rattle.manifest.specs.Laws.{HeldVersionIsLeft, HeldVersionStays};
-ghost use Rattle.manifest.specs.Laws.{OldStoresAreApart};
+ghost use Rattle.manifest.specs.Laws.{FormatOneIsOld, FormatsAreApart, OldStoresAreApart};
 ghost use Rattle.manifest.specs.Laws.{VersionIsOne, VersionsAreCreated, VersionsAreLawful};
+ghost use Rattle.manifest.specs.Laws.{VersionsAreLawfulIn};
 ghost use Rattle.manifest.specs.Manifests.{ManifestHasSlots, NoRoomIsFull, SlotsReachGates};
 
 use record_log::{gates_are_in_files, records_are_unique};
@@ -15,15 +16,18 @@ pub fn manifest_has_slots()
     ensures { ManifestHasSlots }
 {}
 
-/// The files represent one version at most, and a lawful one, of a store that was created. Files of
-/// an old store, which was created too, represent none.
+/// The files represent one version at most, in one format, and a lawful one, of a store that was
+/// created. Files of an old store, which was created too, represent none in format 2.
 pub fn version_is_one()
     ensures one { VersionIsOne }
+    ensures formats { FormatsAreApart }
+    ensures format_1 { FormatOneIsOld }
     ensures lawful { VersionsAreLawful }
+    ensures each_lawful { VersionsAreLawfulIn }
     ensures created { VersionsAreCreated }
     ensures old { OldStoresAreApart }
 {
-    changes_differ(); // law: no two edits have one spelling
+    changes_differ(); // law: no two edits have one spelling in a format
     histories_are_lawful(); // law: edits of which each may be taken give a version
     records_are_unique(); // law: bytes represent one list of records at most
 }

@@ -10,10 +10,12 @@ mod manifest;
 mod opening;
 mod replace;
 mod slot_pair;
+mod upgrade;
 
 pub use creations::has_only_creation_files;
 pub use error::ManifestError;
 pub use manifest::Manifest;
+pub use upgrade::Upgrade;
 pub use version_edits::{
     LogLine, MAX_LINES, MAX_NEXT, StoreVersion, TableLine, TableName, VersionEdit,
 };

@@ -10,8 +10,10 @@ ghost use Rattle.record_log.specs.declared.LogError.TheVariants.{Disk, Memory};
 ghost use Rattle.record_log.specs.declared.log.TheConstants.{MAX_RECORD};
 ghost use Rattle.disk.specs.{MakesCalls};
 ghost use Rattle.record_log.specs.{HasNoRoom, IsArgumentError};
+ghost use Rattle.byte_fields.specs.declared.format.Format.{Format};
+ghost use Rattle.byte_fields.specs.declared.format.Format.TheVariants.{Two};
 ghost use Rattle.record_log.specs.{IsExpected, file_of, gate_of};
-ghost use Rattle.manifest.specs.Changes.{ChangesSlots, IfNoSlots, IfSlotsHold};
+ghost use Rattle.manifest.specs.Changes.{ChangesSlots, IfNoSlots, IfSlotsHold, RewritesSlots};
 ghost use Rattle.manifest.specs.Slots.{other_slot};
 ghost use Rattle.manifest.specs.Holds.{AreNewSlots, IsLongLog, SlotsHold, SparesOthers};
 ghost use Rattle.manifest.specs.Holds.{closed_slot};
@@ -38,6 +40,9 @@ pub struct SlotPair {
 
 /// The place where a slot's log begins.
 pub const HEAD_LENGTH: u64 = 13;
+
+/// The place where it began in format 1.
+pub const OLD_HEAD_LENGTH: u64 = 11;
 
 /// How much longer than twice its first record a slot is before a rewrite is due, in bytes.
 pub const REWRITE_SLACK: u64 = 65_536;
@@ -146,7 +151,7 @@ impl SlotPair {
     pub fn record<D: Disk>(&mut self, disk: &mut D, one: &[u8]) -> Result<(), LogError>
         ensures kept { KeepsDisk D.Disk disk.old disk.new (IsErrOf result (Disk Failed))
             (HasNoRoom self.old.log one.now) (IsSameBut (file_of self.old.log)) }
-        ensures changes { ChangesSlots D.Disk disk.old disk.new self.old self.new
+        ensures changes { ChangesSlots D.Disk disk.old disk.new self.old self.new Two
             (λ records. records ++ one.now ∷ []) IsExpected result }
         ensures met { IfSlotsHold D.Disk disk.old self.old (λ id records.
             length one.now ≤ MAX_RECORD → IfErr result (IsEnvironmental (Disk Failed) Memory)) }
@@ -158,7 +163,8 @@ impl SlotPair {
         self.log.append(disk, one)
     }
 
-    /// Writes the other slot with one record, of the next generation, so that it counts.
+    /// Writes the other slot with one record, in format 2 and the next generation, so that it
+    /// counts. The one that counted may be of either format.
     pub fn rewrite<D: Disk>(
         &mut self,
         alloc: Global,
@@ -169,11 +175,14 @@ impl SlotPair {
         requires room { self.old.generation < MAX_NUMBER }
         ensures kept { KeepsDisk D.Disk disk.old disk.new (IsErrOf result (Disk Failed)) ⊥
             (IsSameBut (other_slot self.old.slot)) }
-        ensures changes { ChangesSlots D.Disk disk.old disk.new self.old self.new
-            (λ records. one.now ∷ []) (IsEnvironmental (Disk Failed) Memory) result }
+        ensures changes { (format : Format) → ChangesSlots D.Disk disk.old disk.new self.old
+            self.new format (λ records. one.now ∷ []) (IsEnvironmental (Disk Failed) Memory)
+            result }
+        ensures written { (format : Format) → RewritesSlots D.Disk disk.old disk.new self.old
+            format one.now result }
         ensures next { MatchResult result (λ _. (file_of self.new.log ≡ other_slot self.old.slot)
             × (self.new.generation ≡ self.old.generation + 1) × (IsLongLog self.new.log → ⊥))
-            (λ _. self.new ≡ self.old) }
+            (λ e. (self.new ≡ self.old) × (IsArgumentError e → ⊥)) }
         ensures calls { MakesCalls D.Disk (closing_calls self.old.other_is_open + 5) disk.old
             disk.new result }
     {

@@ -19,3 +19,5 @@ mod items;
 mod manifests;
 #[cfg(test)]
 mod rewrites;
+#[cfg(test)]
+mod upgrades;

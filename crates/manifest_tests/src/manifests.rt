@@ -32,7 +32,8 @@ fn slot_of(rt: &impl Abort, alloc: Global, generation: u8) -> Vec<u8> {
     slot_with(rt, alloc, 8, generation)
 }
 
-fn put_file(rt: &impl Abort, disk: &mut MemDisk, file: u64, bytes: &[u8]) {
+/// Writes a file, and syncs it.
+pub fn put_file(rt: &impl Abort, disk: &mut MemDisk, file: u64, bytes: &[u8]) {
     disk.write_at(file, 0, bytes).expect(rt, "a write");
     disk.sync(file).expect(rt, "a sync");
 }
@@ -45,8 +46,14 @@ pub fn disk_of(rt: &impl Abort, alloc: Global, first: &[u8], second: &[u8]) -> M
     disk
 }
 
-// Whether the file has these bytes.
-fn has_bytes(rt: &impl Abort, alloc: Global, disk: &mut MemDisk, file: u64, want: &[u8]) -> bool {
+/// Whether the file has these bytes.
+pub fn has_bytes(
+    rt: &impl Abort,
+    alloc: Global,
+    disk: &mut MemDisk,
+    file: u64,
+    want: &[u8],
+) -> bool {
     let mut bytes = filled(rt, alloc, 0, want.len());
     disk.read(file, 0, &mut bytes).expect(rt, "a read");
     disk.length(file) == Ok(want.len() as u64) && is_same(&bytes, want)

@@ -29,13 +29,24 @@ path_names command (program ∷ name ∷ first ∷ second ∷ []) q is =
     first_holds (bytes_eq name command) _ q is
 path_names command (program ∷ name ∷ first ∷ second ∷ third ∷ more) q is = cc
 
--- no words name both commands
+-- no words name two commands
+never_two : (one other : List ℕ) (words : List (List ℕ)) → bytes_eq one other ≡ false →
+    is_named one words ≡ true → is_named other words ≡ true → ⊥
+never_two one other [] apart first second = false≢true first
+never_two one other (program ∷ []) apart first second = false≢true first
+never_two one other (program ∷ name ∷ words) apart first second =
+    let same : one ≡ other =
+    sym ((bytes_eq-Decides name one).0 first) ∙ (bytes_eq-Decides name other).0 second in
+    false≢true (sym apart ∙ (bytes_eq-Decides one other).1 same)
+
 pub never_both : (words : List (List ℕ)) → is_named (codes "loop") words ≡ true →
     is_named (codes "dump") words ≡ true → ⊥
-never_both [] loop dump = false≢true loop
-never_both (program ∷ []) loop dump = false≢true loop
-never_both (program ∷ name ∷ words) loop dump =
-    let same : codes "loop" ≡ codes "dump" =
-    sym ((bytes_eq-Decides name (codes "loop")).0 loop)
-    ∙ (bytes_eq-Decides name (codes "dump")).0 dump in
-    false≢true ((bytes_eq-Decides (codes "loop") (codes "dump")).1 same)
+never_both words loop dump = never_two (codes "loop") (codes "dump") words refl loop dump
+
+pub never_loop : (words : List (List ℕ)) → is_named (codes "loop") words ≡ true →
+    is_named (codes "upgrade") words ≡ true → ⊥
+never_loop words loop upgrade = never_two (codes "loop") (codes "upgrade") words refl loop upgrade
+
+pub never_dump : (words : List (List ℕ)) → is_named (codes "dump") words ≡ true →
+    is_named (codes "upgrade") words ≡ true → ⊥
+never_dump words dump upgrade = never_two (codes "dump") (codes "upgrade") words refl dump upgrade

@@ -35,9 +35,10 @@ use Rattle.program.specs.declared.failure.Failure.TheVariants.{Memory, Output, S
 use Rattle.program.specs.declared.folder_failure.LoopFailure.{LoopFailure}
 use Rattle.program.specs.declared.folder_failure.LoopFailure.TheVariants.{Folder, Network, Run}
 use Rattle.program.specs.Failures.{IsOfReading}
-use Rattle.program.specs.FolderDumps.{DumpOrUsage}
+use Rattle.program.specs.FolderDumps.{DumpEndsFor, DumpOrUsage}
+use Rattle.program.specs.FolderUpgrades.{UpgradeEndsFor, UpgradeOrUsage}
 use Rattle.program.specs.FolderFailures.{IsLoopFailureOf, loop_failure_line}
-use Rattle.program.specs.Invocations.{is_named}
+use Rattle.program.specs.Invocations.{dump_folder, is_named, upgrade_folder}
 use Rattle.program.specs.Runs.{LabOrUsage, UsageIsReported}
 
 -- ---- nodes that stop by themselves
@@ -252,6 +253,15 @@ pub record LoopEndsFor {R I : Type 0} (g : Ghosts (DirDisk R)) (script folder : 
   pub path : script ≢ codes "-" → (new_input ≡ old_input)
       × LoopEnds g folder None old_out new_out old_err new_err answer
 
+-- how the words `dump DIR` and `upgrade DIR` end: standard input is left as it was
+pub record FolderWordsEnd {R I : Type 0} (g : Ghosts (DirDisk R))
+    (h : Ghosts (Unchanged (DirDisk R))) (words : List (List ℕ)) (old_input new_input : I)
+    (old_out new_out old_err new_err : Option (List ℕ)) (answer : ℕ) : Type 0 where
+  pub dumped : (folder : List ℕ) → dump_folder words ≡ Some folder → (new_input ≡ old_input)
+      × DumpEndsFor h folder old_out new_out old_err new_err answer
+  pub upgraded : (folder : List ℕ) → upgrade_folder words ≡ Some folder → (new_input ≡ old_input)
+      × UpgradeEndsFor g folder old_out new_out old_err new_err answer
+
 -- how the program ends, whatever it read: as the command does that its words name, or else as words
 -- that ask for nothing
 pub record ProgramEnds {R : Type 0} (g : Ghosts (DirDisk R)) (h : Ghosts (Unchanged (DirDisk R)))
@@ -261,11 +271,16 @@ pub record ProgramEnds {R : Type 0} (g : Ghosts (DirDisk R)) (h : Ghosts (Unchan
       LoopOrUsage g old_out new_out old_err new_err answer
   pub dump : is_named (codes "dump") words ≡ true →
       DumpOrUsage h old_out new_out old_err new_err answer
+  pub upgrade : is_named (codes "upgrade") words ≡ true →
+      UpgradeOrUsage g old_out new_out old_err new_err answer
   pub other : is_named (codes "loop") words ≡ false → is_named (codes "dump") words ≡ false →
+      is_named (codes "upgrade") words ≡ false →
       LabOrUsage old_out new_out old_err new_err answer
 
--- standard input is left as it was by words that name `dump`, and by all that end with the usage
+-- standard input is left as it was by words that name `dump` or `upgrade`, and by all that end with
+-- the usage
 pub record LeavesInput {I : Type 0} (words : List (List ℕ)) (old_input new_input : I) (answer : ℕ)
     : Type 0 where
   pub dump : is_named (codes "dump") words ≡ true → new_input ≡ old_input
+  pub upgrade : is_named (codes "upgrade") words ≡ true → new_input ≡ old_input
   pub usage : answer ≡ 2 → new_input ≡ old_input

@@ -46,6 +46,10 @@ lab_script words = path_of (codes "lab") words
 abbrev pub dump_folder : List (List ℕ) → Option (List ℕ)
 dump_folder words = path_of (codes "dump") words
 
+-- the DIR of the words behind `upgrade`
+abbrev pub upgrade_folder : List (List ℕ) → Option (List ℕ)
+upgrade_folder words = path_of (codes "upgrade") words
+
 -- the words `--dir D`
 abbrev pub is_dir_option : List ℕ → List ℕ → Bool
 is_dir_option option folder = bytes_eq option (codes "--dir") && names_path folder
@@ -70,9 +74,11 @@ pub record AsksForNothing (words : List (List ℕ)) : Type 0 where
   pub lab : lab_script words ≡ None
   pub loop : loop_paths words ≡ None
   pub dump : dump_folder words ≡ None
+  pub upgrade : upgrade_folder words ≡ None
   pub lab_option : has_option (codes "lab") words ≡ false
   pub loop_option : has_option (codes "loop") words ≡ false
   pub dump_option : has_option (codes "dump") words ≡ false
+  pub upgrade_option : has_option (codes "upgrade") words ≡ false
 
 -- ---- requests
 
@@ -83,4 +89,5 @@ AsksForScript (Script word) path = word.now ≡ path
 
 -- the line for words that ask for nothing
 abbrev pub usage_line : List ℕ
-usage_line = codes "usage: chainstore lab SCRIPT | loop SCRIPT --dir D | dump DIR" ++ 10 ∷ []
+usage_line =
+    codes "usage: chainstore lab SCRIPT | loop SCRIPT --dir D | dump DIR | upgrade DIR" ++ 10 ∷ []

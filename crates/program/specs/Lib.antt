@@ -4,4 +4,5 @@ pub mod Invocations
 pub mod Runs
 pub mod FolderRuns
 pub mod FolderDumps
+pub mod FolderUpgrades
 pub mod Readings

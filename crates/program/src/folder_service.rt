@@ -3,15 +3,18 @@ ghost use Rattle.std.specs.Prelude.{◌≡◌, ◌≢◌, ℕ, List, false, map,
 ghost use Rattle.std.specs.Prelude.{Some, None};
 ghost use Rattle.store_texts.specs.Writing.{AppendsPart};
 ghost use Rattle.program.specs.FolderFailures.{dump_failure_line, loop_failure_line};
+ghost use Rattle.program.specs.FolderFailures.{upgrade_failure_line};
 ghost use Rattle.program.specs.FolderDumps.{DumpEndsFor, DumpOrUsage};
 ghost use Rattle.program.specs.FolderRuns.{LoopEnds, LoopEndsFor, LoopOrUsage, stopped_status};
-ghost use Rattle.program.specs.Invocations.{dump_folder, has_option, loop_paths};
+ghost use Rattle.program.specs.FolderUpgrades.{UpgradeEndsFor, UpgradeOrUsage};
+ghost use Rattle.program.specs.Invocations.{dump_folder, has_option, loop_paths, upgrade_folder};
 ghost use Rattle.program.specs.Runs.{UsageIsReported};
 
 use crate::failure::Failure;
 use crate::folder_dump::dump_folder;
-use crate::folder_failure::{DumpFailure, LoopFailure};
+use crate::folder_failure::{DumpFailure, LoopFailure, UpgradeFailure};
 use crate::folder_run::run_in_folders;
+use crate::folder_upgrade::upgrade_folder;
 use crate::invocation::{WordsError, loop_request, path_request};
 use crate::service::{LINE, refuse};
 use arrayvec::ArrayVec;
@@ -120,6 +123,26 @@ where
     }
 }
 
+/// Writes why a store was not upgraded.
+fn write_upgrade_failure<E: Write>(err: &mut E, failure: UpgradeFailure) -> io::Result<()>
+    ensures { AppendsPart (E.contents err.old) (E.contents err.new) (upgrade_failure_line failure) }
+{
+    let mut line = ArrayVec::<u8, LINE>::new();
+    writeln!(line, "{failure}")?;
+    print(line.as_slice(), err)
+}
+
+/// The status where a store was not upgraded. Standard error may take only a beginning of the line
+/// that says why.
+fn report_upgrade<E: Write>(err: &mut E, failure: UpgradeFailure) -> u8
+    ensures status { result ≡ 1 }
+    ensures text { AppendsPart (E.contents err.old) (E.contents err.new)
+        (upgrade_failure_line failure) }
+{
+    let _ = write_upgrade_failure(err, failure);
+    1
+}
+
 /// Does what words ask for that name `loop`, and answers the exit status.
 pub fn serve_loop<F, R: Read, O: Write, E: Write>(
     rt: &F,
@@ -169,6 +192,41 @@ where
     match path_request(rt.alloc(), "dump", "DIR", words) {
         Ok(folder) => write_folder(rt, folder, out, err),
         Err(WordsError::Memory) => report_dump(err, DumpFailure::Memory),
+        Err(WordsError::Usage) => refuse(err),
+    }
+}
+
+/// Takes the store of a folder over, and answers the status.
+fn upgrade_at<F, O: Write, E: Write>(rt: &F, folder: &str, out: &mut O, err: &mut E) -> u8
+where
+    F: Files<File = File> + Alloc<A = Global> + Clone + Drop,
+    ensures { UpgradeEndsFor ⟦<DirDisk<F> as Disk>⟧ folder.now (O.contents out.old)
+        (O.contents out.new) (E.contents err.old) (E.contents err.new) result }
+{
+    match upgrade_folder(rt, folder, out) {
+        Ok(()) => 0,
+        Err(failure) => report_upgrade(err, failure),
+    }
+}
+
+/// Does what words ask for that name `upgrade`, and answers the exit status.
+pub fn serve_upgrade<F, O: Write, E: Write>(rt: &F, words: &[&str], out: &mut O, err: &mut E) -> u8
+where
+    F: Files<File = File> + Alloc<A = Global> + Clone + Drop,
+    ensures upgraded { (folder : List ℕ) →
+        upgrade_folder (map (λ w. w.now) words.now) ≡ Some folder →
+        UpgradeEndsFor ⟦<DirDisk<F> as Disk>⟧ folder (O.contents out.old)
+        (O.contents out.new) (E.contents err.old) (E.contents err.new) result }
+    ensures unknown { upgrade_folder (map (λ w. w.now) words.now) ≡ None →
+        has_option (codes "upgrade") (map (λ w. w.now) words.now) ≡ false →
+        UsageIsReported (O.contents out.old) (O.contents out.new) (E.contents err.old)
+        (E.contents err.new) result }
+    ensures ends { UpgradeOrUsage ⟦<DirDisk<F> as Disk>⟧ (O.contents out.old)
+        (O.contents out.new) (E.contents err.old) (E.contents err.new) result }
+{
+    match path_request(rt.alloc(), "upgrade", "DIR", words) {
+        Ok(folder) => upgrade_at(rt, folder, out, err),
+        Err(WordsError::Memory) => report_upgrade(err, UpgradeFailure::Memory),
         Err(WordsError::Usage) => refuse(err),
     }
 }

@@ -1,5 +1,5 @@
 //! What the program does: it reads a script, runs it at a chain's nodes, and prints what happens;
-//! or it prints what a folder's store has.
+//! it prints what a folder's store has; or it takes one over from format 1.
 #![tactic(auto)]
 
 mod dispatch;
@@ -8,6 +8,7 @@ mod folder_dump;
 mod folder_failure;
 mod folder_run;
 mod folder_service;
+mod folder_upgrade;
 mod invocation;
 mod reading;
 mod run_input;

@@ -19,7 +19,7 @@ use std::rt::Files;
 use store_texts::print;
 
 /// The line for words that ask for nothing.
-const USAGE: &str = "usage: chainstore lab SCRIPT | loop SCRIPT --dir D | dump DIR\n";
+const USAGE: &str = "usage: chainstore lab SCRIPT | loop SCRIPT --dir D | dump DIR | upgrade DIR\n";
 
 /// Room for the line of a failure: each is shorter.
 pub const LINE: usize = 64;

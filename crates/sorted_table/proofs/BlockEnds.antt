@@ -9,6 +9,7 @@ use Rattle.byte_fields.specs.FieldsLemmas.{some_is}
 use Rattle.kv_types.specs.{Entry}
 use Rattle.table_files.specs.{ReadsEntries, entry_read}
 use Rattle.table_files.specs.EntryReadsLemmas.{count_read}
+use Rattle.byte_fields.specs.declared.format.Format.{Format}
 use Rattle.table_format.specs.{last_entry}
 use Rattle.sorted_table.specs.EntrySplits.{SplitsEntries}
 use Rattle.sorted_table.specs.Searches.{FindsFirstWithout, IsEarlier, IsFirstWithout}
@@ -25,21 +26,23 @@ last_there (x ∷ y ∷ entries) =
     ap (slice_get (x ∷ y ∷ entries)) at ∙ last_there (y ∷ entries)
 
 -- what is read at place k is entry k
-pub read_there : (block starts : List ℕ) (entries : List Entry) → ReadsEntries block starts entries
+pub read_there : (format : Format) (block starts : List ℕ) (entries : List Entry)
+    → ReadsEntries format block starts entries
     → (k start : ℕ) (entry : Entry) → slice_get starts k ≡ Some start
-    → entry_read block start ≡ Some entry → slice_get entries k ≡ Some entry
-read_there block starts entries is k start entry at read =
-    let e = entry_of_start block starts entries is k start at in
+    → entry_read format block start ≡ Some entry → slice_get entries k ≡ Some entry
+read_there format block starts entries is k start entry at read =
+    let e = entry_of_start format block starts entries is k start at in
     e.1 ∙ ap Some (some_is e.0 entry (sym e.2 ∙ read))
 
 -- what is read at the last place is the last entry
-pub read_last : (block starts : List ℕ) (entries : List Entry) → ReadsEntries block starts entries
+pub read_last : (format : Format) (block starts : List ℕ) (entries : List Entry)
+    → ReadsEntries format block starts entries
     → (start : ℕ) (entry : Entry) → slice_get starts (length starts - 1) ≡ Some start
-    → entry_read block start ≡ Some entry → last_entry entries ≡ Some entry
-read_last block starts entries is start entry at read =
+    → entry_read format block start ≡ Some entry → last_entry entries ≡ Some entry
+read_last format block starts entries is start entry at read =
     sym (last_there entries)
-    ∙ ap (λ n. slice_get entries (n - 1)) (sym (count_read block starts entries is))
-    ∙ read_there block starts entries is (length starts - 1) start entry at read
+    ∙ ap (λ n. slice_get entries (n - 1)) (sym (count_read format block starts entries is))
+    ∙ read_there format block starts entries is (length starts - 1) start entry at read
 
 -- ---- places that divide
 
@@ -85,32 +88,34 @@ none_by : (found : Option Entry) → option_map Some found ≡ None → found �
 none_by None is = refl
 none_by (Some entry) is = absurd cc
 
-module _ (block starts : List ℕ) (entries : List Entry) (place : Entry) (n : ℕ)
-    (is : ReadsEntries block starts entries) (split : SplitsEntries entries place n) where
+module _ (format : Format) (block starts : List ℕ) (entries : List Entry) (place : Entry) (n : ℕ)
+    (is : ReadsEntries format block starts entries) (split : SplitsEntries entries place n) where
   -- where no place is left all entries come before
   pub all_before : slice_get starts n ≡ None → All (IsEarlier place) entries
   all_before none =
       subst (FindsFirstWithout (IsEarlier place) entries)
-      (none_by (slice_get entries n) (sym (places_agree block starts entries is n)
-      ∙ ap (option_map (entry_read block)) none))
+      (none_by (slice_get entries n) (sym (places_agree format block starts entries is n)
+      ∙ ap (option_map (entry_read format block)) none))
       (first_behind entries place n split)
 
   -- what is read at the place is the first entry that does not come before
   pub first_read : (start : ℕ) (entry : Entry) → slice_get starts n ≡ Some start
-      → entry_read block start ≡ Some entry → IsFirstWithout (IsEarlier place) entries entry
+      → entry_read format block start ≡ Some entry → IsFirstWithout (IsEarlier place) entries entry
   first_read start entry at read =
       subst (FindsFirstWithout (IsEarlier place) entries)
-      (read_there block starts entries is n start entry at read)
+      (read_there format block starts entries is n start entry at read)
       (first_behind entries place n split)
 
 -- ---- lent lists
 
 -- the entries that are read of equal lists
-pub lent_reads : (entries : List Entry) (block starts bytes places : List ℕ) → bytes ≡ block
-    → places ≡ starts → ReadsEntries block starts entries → ReadsEntries bytes places entries
-lent_reads entries block starts bytes places same is reads =
-    subst (λ l. ReadsEntries l places entries) (sym same)
-    (subst (λ l. ReadsEntries block l entries) (sym is) reads)
+pub lent_reads : (format : Format) (entries : List Entry) (block starts bytes places : List ℕ)
+    → bytes ≡ block
+    → places ≡ starts → ReadsEntries format block starts entries
+    → ReadsEntries format bytes places entries
+lent_reads format entries block starts bytes places same is reads =
+    subst (λ l. ReadsEntries format l places entries) (sym same)
+    (subst (λ l. ReadsEntries format block l entries) (sym is) reads)
 
 -- a place that was found in an equal list
 pub lent_place : (starts places : List ℕ) (n start : ℕ) → places ≡ starts

@@ -6,8 +6,9 @@ use Rattle.std.specs.List.{slice_get}
 use Rattle.std.proofs.lemmas.List.Concat.{flat_map-cons}
 use Rattle.byte_fields.specs.FieldsLemmas.{some_is}
 use Rattle.kv_types.specs.{Entry}
-use Rattle.table_format.specs.{Block, IsBlock, TableRepresents, block_bytes, block_entries}
+use Rattle.table_format.specs.{Block, IsBlock, TableRepresentsIn, block_bytes, block_entries}
 use Rattle.table_format.specs.{block_line, block_lines, data_bytes}
+use Rattle.byte_fields.specs.declared.format.Format.{Format}
 use Rattle.table_format.specs.declared.IndexLine.{IndexLine}
 use Rattle.sorted_table.proofs.LineBlocks.{block_in}
 
@@ -18,35 +19,36 @@ around [] n x at = absurd cc
 around (y ∷ xs) zero x at = ap (λ z. z ∷ xs) (some_is y x at)
 around (y ∷ xs) (suc n) x at = ap (λ l. y ∷ l) (around xs n x at)
 
-pub length-block_lines : (place : ℕ) (blocks : List Block)
-    → length (block_lines place blocks) ≡ length blocks
-length-block_lines place [] = refl
-length-block_lines place (b ∷ blocks) =
-    ap suc (length-block_lines (place + length (block_bytes b)) blocks)
+pub length-block_lines : (format : Format) (place : ℕ) (blocks : List Block)
+    → length (block_lines format place blocks) ≡ length blocks
+length-block_lines format place [] = refl
+length-block_lines format place (b ∷ blocks) =
+    ap suc (length-block_lines format (place + length (block_bytes format b)) blocks)
 
 -- the line of a block
-pub line_of : (place : ℕ) (blocks : List Block) (n : ℕ) (block : Block)
+pub line_of : (format : Format) (place : ℕ) (blocks : List Block) (n : ℕ) (block : Block)
     → slice_get blocks n ≡ Some block
-    → slice_get (block_lines place blocks) n
-    ≡ Some (block_line (place + length (data_bytes (take n blocks))) block)
-line_of place [] n block at = absurd cc
-line_of place (b ∷ blocks) zero block at =
-    ap (λ x. Some (block_line place x)) (some_is b block at)
-    ∙ ap (λ p. Some (block_line p block)) (omega arith)
-line_of place (b ∷ blocks) (suc n) block at =
-    let size : length (data_bytes (b ∷ take n blocks))
-    ≡ length (block_bytes b) + length (data_bytes (take n blocks)) =
-    ap length (flat_map-cons block_bytes b (take n blocks))
-    ∙ length-append (block_bytes b) (data_bytes (take n blocks)) in
-    line_of (place + length (block_bytes b)) blocks n block at
-    ∙ ap (λ p. Some (block_line p block)) (omega (arith, size))
+    → slice_get (block_lines format place blocks) n
+    ≡ Some (block_line format (place + length (data_bytes format (take n blocks))) block)
+line_of format place [] n block at = absurd cc
+line_of format place (b ∷ blocks) zero block at =
+    ap (λ x. Some (block_line format place x)) (some_is b block at)
+    ∙ ap (λ p. Some (block_line format p block)) (omega arith)
+line_of format place (b ∷ blocks) (suc n) block at =
+    let size : length (data_bytes format (b ∷ take n blocks))
+    ≡ length (block_bytes format b) + length (data_bytes format (take n blocks)) =
+    ap length (flat_map-cons (block_bytes format) b (take n blocks))
+    ∙ length-append (block_bytes format b) (data_bytes format (take n blocks)) in
+    line_of format (place + length (block_bytes format b)) blocks n block at
+    ∙ ap (λ p. Some (block_line format p block)) (omega (arith, size))
 
 -- block number n of a table is where its line says
-pub record BlockNumber (bytes : List ℕ) (blocks : List Block) (line : IndexLine) (n : ℕ)
+pub record BlockNumber (format : Format) (bytes : List ℕ) (blocks : List Block) (line : IndexLine)
+    (n : ℕ)
     : Type 0 where
   pub block : Block
   pub present : slice_get blocks n ≡ Some block
-  pub is_block : IsBlock (take line.len (drop line.place bytes)) (block_entries block)
+  pub is_block : IsBlock format (take line.len (drop line.place bytes)) (block_entries block)
   pub within : line.place + line.len ≤ length bytes
 
 pub some_of : {A : Type 0} (xs : List A) (n : ℕ) → n < length xs
@@ -55,22 +57,25 @@ some_of [] n lt = absurd (omega (arith, lt))
 some_of (x ∷ xs) zero lt = (x, refl)
 some_of (x ∷ xs) (suc n) lt = some_of xs n (omega (arith, lt))
 
-pub block_number : (bytes : List ℕ) (entries : List Entry) (s : TableRepresents bytes entries)
+pub block_number : (format : Format) (bytes : List ℕ) (entries : List Entry)
+    (s : TableRepresentsIn format bytes entries)
     (n : ℕ) (line : IndexLine) → n < length s.blocks
-    → slice_get (block_lines 0 s.blocks) n ≡ Some line → BlockNumber bytes s.blocks line n
-block_number bytes entries s n line within at =
+    → slice_get (block_lines format 0 s.blocks) n ≡ Some line
+    → BlockNumber format bytes s.blocks line n
+block_number format bytes entries s n line within at =
     let b = some_of s.blocks n within in
-    let is : block_line (length (data_bytes (take n s.blocks))) b.0 ≡ line =
-    some_is (block_line (length (data_bytes (take n s.blocks))) b.0) line
-    (sym (ap (λ p. Some (block_line p b.0)) (omega arith)) ∙ sym (line_of 0 s.blocks n b.0 b.1)
+    let is : block_line format (length (data_bytes format (take n s.blocks))) b.0 ≡ line =
+    some_is (block_line format (length (data_bytes format (take n s.blocks))) b.0) line
+    (sym (ap (λ p. Some (block_line format p b.0)) (omega arith))
+    ∙ sym (line_of format 0 s.blocks n b.0 b.1)
     ∙ at)
     in
-    let here = block_in bytes entries s (take n s.blocks) b.0 (drop (suc n) s.blocks)
+    let here = block_in format bytes entries s (take n s.blocks) b.0 (drop (suc n) s.blocks)
     (around s.blocks n b.0 b.1) in
     record {
       block = b.0;
       present = b.1;
-      is_block = subst (λ (l : IndexLine). IsBlock (take l.len (drop l.place bytes))
+      is_block = subst (λ (l : IndexLine). IsBlock format (take l.len (drop l.place bytes))
           (block_entries b.0)) is here.is_block;
       within = subst (λ (l : IndexLine). l.place + l.len ≤ length bytes) is here.within;
     }

@@ -17,6 +17,7 @@ use Rattle.merge_iter.specs.OrderLemmas.{less_iff}
 use Rattle.merge_iter.specs.declared.Direction.TheVariants.{Forward}
 use Rattle.table_format.specs.{TableRepresents, last_entry}
 use Rattle.table_format.specs.RisingLemmas.{last_among, last_of_some}
+use Rattle.byte_fields.specs.declared.format.Format.{Format}
 use Rattle.table_format.specs.declared.IndexLine.{IndexLine}
 use Rattle.sorted_table.specs.Open.{FileRepresents, greatest_key, last_line_key}
 use Rattle.sorted_table.specs.Searches.{EndsBefore}
@@ -41,29 +42,31 @@ all_before (x ∷ y ∷ entries) last place rises is before entry among = elim a
 ]
 
 -- the key of the last line is that of the last entry
-greatest_of : (file : Slot) (lines : List IndexLine) → (table : HasLines file lines)
+greatest_of : (format : Format) (file : Slot) (lines : List IndexLine)
+    → (table : HasLines format file lines)
     → last_line_key lines ≡ greatest_key table.entries
-greatest_of file lines table =
+greatest_of format file lines table =
     sym (last_line_is lines)
     ∙ ap (λ (all : List IndexLine). option_map (λ (line : IndexLine). line.key)
     (slice_get all (length all - 1))) table.indexed
-    ∙ (last_key 0 table.represents.blocks ∙ sym (ap greatest_key table.represents.division))
+    ∙ (last_key format 0 table.represents.blocks ∙ sym (ap greatest_key table.represents.division))
 
 -- where the last key comes before another, every entry does
-pub file_ends : (file : Slot) (lines : List IndexLine) (key : StoredKey) → HasLines file lines
+pub file_ends : (format : Format) (file : Slot) (lines : List IndexLine) (key : StoredKey)
+    → HasLines format file lines
     → IsSomeAnd (last_line_key lines) (λ last. stored_cmp last key ≡ Less)
     → EndsBefore (FileHolds file) key
-file_ends file lines key table ends =
+file_ends format file lines key table ends =
     let entries = table.entries in
     let end = last_of_some entries (omega (arith, table.represents.some)) in
     let greatest : last_line_key lines ≡ Some end.0.key =
-    greatest_of file lines table ∙ ap (option_map (λ (e : Entry). e.key)) end.1 in
+    greatest_of format file lines table ∙ ap (option_map (λ (e : Entry). e.key)) end.1 in
     let less : stored_cmp end.0.key key ≡ Less =
     subst (λ (o : Option StoredKey). IsSomeAnd o (λ last. stored_cmp last key ≡ Less)) greatest
     ends in
     let here : FileRepresents file entries =
     subst (λ (o : Option (List ℕ)). IsSomeAnd o (λ bytes. TableRepresents bytes entries))
-    (sym table.present) table.represents in
+    (sym table.present) (record { format = format; table = table.represents }) in
     let rises = rises_from_AllPairs (EntryPrecedes Forward) entries table.represents.rising in
     let among : (entry : Entry) → FileHolds file entry → Among entry entries = λ entry held.
     among_from_Contains entries entry

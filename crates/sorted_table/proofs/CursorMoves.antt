@@ -7,6 +7,7 @@ use Rattle.disk.specs.declared.Disk.{Ghosts}
 use Rattle.kv_types.specs.{Entry}
 use Rattle.merge_iter.specs.{ErrorCauses, IsBroken, Moved}
 use Rattle.merge_iter.specs.declared.CursorError.{CursorError}
+use Rattle.byte_fields.specs.declared.format.Format.{Format}
 use Rattle.table_format.specs.declared.IndexLine.{IndexLine}
 use Rattle.table_format.specs.declared.FileError.{FileError}
 use Rattle.table_format.specs.declared.FileError.TheVariants as reading
@@ -66,13 +67,13 @@ causes_of_ok x y c = record {
   failed = (λ is. absurd cc, λ was. let is = c.failed.1 was in absurd cc);
 }
 
-module _ {D : Type 0} (g : Ghosts D) {T : Type 0} (file : ℕ) (lines : List IndexLine) (a b : D)
-    (read : Result T FileError)
+module _ {D : Type 0} (g : Ghosts D) {T : Type 0} (file : ℕ) (format : Format)
+    (lines : List IndexLine) (a b : D) (read : Result T FileError)
   where
     -- a block that was not read is not entered
     pub enters_none : (e : FileError) → read ≡ Err e → ReadsDisk g a b read
-        → (read ≡ Err reading.Damaged → g.is_honest a → HasLines (g.state a file) lines → ⊥)
-        → EntersBlock g file lines a b None true (Err (move_error e))
+        → (read ≡ Err reading.Damaged → g.is_honest a → HasLines format (g.state a file) lines → ⊥)
+        → EntersBlock g file format lines a b None true (Err (move_error e))
     enters_none reading.Disk is reads damaged = record {
       keeps = keeps_files_after g a b read reads.kept reads.still;
       device = record {
@@ -125,7 +126,7 @@ module _ {D : Type 0} (g : Ghosts D) {T : Type 0} (file : ℕ) (lines : List Ind
 
     -- a block that was read is
     pub enters_some : (x : T) (at : Option BlockPlace) (failed : Bool) → read ≡ Ok x
-        → ReadsDisk g a b read → EntersBlock g file lines a b at failed (Ok tt)
+        → ReadsDisk g a b read → EntersBlock g file format lines a b at failed (Ok tt)
     enters_some x at failed is reads =
         let works : read ≡ Err reading.Disk → ⊥ = λ fails. cc in
         record {
@@ -144,19 +145,19 @@ module _ {D : Type 0} (g : Ghosts D) {T : Type 0} (file : ℕ) (lines : List Ind
           refused = tt;
         }
 
-module _ {C S : Type 0} (g : Ghosts S) (file : C → ℕ) (lines : C → List IndexLine)
-    (place : C → Option BlockPlace) where
+module _ {C S : Type 0} (g : Ghosts S) (file : C → ℕ) (format : C → Format)
+    (lines : C → List IndexLine) (place : C → Option BlockPlace) where
   -- the table stays, and the place is one of its blocks, if the one before was
   pub cursor_moves : (old new : C) (a b : S) → KeepsFiles g a b → file new ≡ file old
-      → lines new ≡ lines old
-      → ((m : Slot) → g.is_honest a → AreAsMeant (g.state a (file old)) m (lines old)
-      → (t : HasLines m (lines old))
+      → lines new ≡ lines old → format new ≡ format old
+      → ((m : Slot) → g.is_honest a → AreAsMeant (format old) (g.state a (file old)) m (lines old)
+      → (t : HasLines (format old) m (lines old))
       → IfSome (place old) (IsPlaceIn t.represents.blocks)
       → IfSome (place new) (IsPlaceIn t.represents.blocks))
       → Moved {C = C} {S = S} {K = State} (λ m c s. FileHolds (m (file c)))
-      (ServesMeant g file lines place) (FileSuits g file lines place)
+      (ServesMeant g file format lines place) (FileSuits g file format lines place)
       (KeepsFiles g) (λ c. blocks_size (lines c)) old a new b
-  cursor_moves old new a b keeps same_file same_lines moves = record {
+  cursor_moves old new a b keeps same_file same_lines same_format moves = record {
     source = keeps;
     stays = λ m s.
         let slot : g.state a (file old) ≡ g.state b (file new) =
@@ -164,15 +165,21 @@ module _ {C S : Type 0} (g : Ghosts S) (file : C → ℕ) (lines : C → List In
         let meant : m (file old) ≡ m (file new) = ap m (sym same_file) in (
           (
             keeps.honest.1 s.0,
-            subst (λ z. CursorServes z (lines new) (place new)) meant
-                (subst (λ l. CursorServes (m (file old)) l (place new)) (sym same_lines)
+            subst (λ z. CursorServes (format new) z (lines new) (place new)) meant
+                (subst (λ f. CursorServes f (m (file old)) (lines new) (place new))
+                (sym same_format)
+                (subst (λ l. CursorServes (format old) (m (file old)) l (place new))
+                (sym same_lines)
                 (record {
                   table = s.1.table;
                   here = moves (m (file old)) s.0 s.2 s.1.table s.1.here;
-                })),
-            subst (λ z. AreAsMeant z (m (file new)) (lines new)) slot
-                (subst (λ z. AreAsMeant (g.state a (file old)) z (lines new)) meant
-                (subst (AreAsMeant (g.state a (file old)) (m (file old))) (sym same_lines) s.2)),
+                }))),
+            subst (λ z. AreAsMeant (format new) z (m (file new)) (lines new)) slot
+                (subst (λ z. AreAsMeant (format new) (g.state a (file old)) z (lines new)) meant
+                (subst (λ f. AreAsMeant f (g.state a (file old)) (m (file old)) (lines new))
+                (sym same_format)
+                (subst (AreAsMeant (format old) (g.state a (file old)) (m (file old)))
+                (sym same_lines) s.2))),
           ),
           λ entry. subst (λ z. FileHolds z entry ↔ FileHolds (m (file old)) entry) meant
               ((λ h. h), (λ h. h)),
@@ -185,8 +192,9 @@ module _ {C S : Type 0} (g : Ghosts S) (file : C → ℕ) (lines : C → List In
   -- why a move is refused that enters a block
   pub move_causes : (old : C) (a b : S) (at : Option BlockPlace) (failed : Bool)
       (result : Result (Unit {0}) CursorError)
-      → EntersBlock g (file old) (lines old) a b at failed result
-      → ErrorCauses ((m : State) × ServesMeant g file lines place m old a × AreIntactFiles g m a) ⊥
+      → EntersBlock g (file old) (format old) (lines old) a b at failed result
+      → ErrorCauses ((m : State) × ServesMeant g file format lines place m old a
+      × AreIntactFiles g m a) ⊥
       (Unit {0}) (g.failures a) (g.failures b) result
   move_causes old a b at failed result moved = record {
     disk = moved.causes.disk;
@@ -194,7 +202,7 @@ module _ {C S : Type 0} (g : Ghosts S) (file : C → ℕ) (lines : C → List In
     damaged = λ is w.
         moved.causes.damaged is (
           w.1.0,
-          subst (λ z. HasLines z (lines old)) (sym (w.2 w.1.0 (file old))) w.1.1.table,
+          subst (λ z. HasLines (format old) z (lines old)) (sym (w.2 w.1.0 (file old))) w.1.1.table,
         );
     memory = moved.causes.memory;
     failed = moved.causes.failed;

@@ -1,13 +1,15 @@
--- A filter of the keys of entries denies none of them.
+-- A filter of the keys of entries denies none of them, in each format.
 use Rattle.std.proofs.Common.{◌≡◌, inl, inr, ℕ, List, [], ◌∷◌, Bool, true, false, cond, Contains}
-use Rattle.std.proofs.Common.{refl, sym, ap, subst}
+use Rattle.std.proofs.Common.{refl, sym, ap, subst, map}
 use Rattle.std.specs.Str.{bytes_eq}
 use Rattle.std.proofs.lemmas.Slice.Eq.{bytes_eq-Decides}
-use Rattle.byte_fields.specs.{StoredKey}
+use Rattle.byte_fields.specs.{StoredKey, bytes_of}
 use Rattle.kv_types.specs.OrderLemmas.{Among, among_from_Contains, among_of_All}
 use Rattle.kv_types.specs.{Entry, IsUnseen}
 use Rattle.bloom.specs.Filters.{Covers, FiltersCover, IsFilter}
-use Rattle.table_format.specs.{different_keys}
+use Rattle.table_format.specs.{different_keys, filter_key, filter_keys}
+use Rattle.byte_fields.specs.declared.format.Format.{Format}
+use Rattle.byte_fields.specs.declared.format.Format.TheVariants.{One, Two}
 
 more_keys : (b : Bool) (k : List ℕ) (ks : List (List ℕ)) (key : StoredKey) → Among key ks
     → Among key (cond b ks (k ∷ ks))
@@ -33,11 +35,26 @@ key_among (x ∷ y ∷ entries) entry (inr a) =
     more_keys (bytes_eq x.key y.key) x.key (different_keys (y ∷ entries)) entry.key
     (key_among (y ∷ entries) entry a)
 
+among_bytes : (keys : List StoredKey) (key : StoredKey) → Among key keys
+    → Among (bytes_of key) (map bytes_of keys)
+among_bytes [] key a = absurd a
+among_bytes (k ∷ keys) key (inl e) = inl (ap bytes_of e)
+among_bytes (k ∷ keys) key (inr a) = inr (among_bytes keys key a)
+
+-- what is held for one of the keys is among what is held for them
+held_among : (format : Format) (keys : List StoredKey) (key : StoredKey) → Among key keys
+    → Among (filter_key format key) (filter_keys format keys)
+held_among One keys key a = among_bytes keys key a
+held_among Two keys key a = a
+
 -- a key that the filter denies has no entry
-pub denied_unseen : (entries : List Entry) (filter key : List ℕ) (at : ℕ) → FiltersCover
-    → IsFilter (different_keys entries) filter → (Covers filter key → ⊥)
-    → IsUnseen at (Contains entries) key
-denied_unseen entries filter key at cover exact denied = λ other seen e.
-    denied (subst (Covers filter) e (among_of_All (Covers filter) (different_keys entries) other.key
-    (cover (different_keys entries) filter exact)
-    (key_among entries other (among_from_Contains entries other seen.0))))
+pub denied_unseen : (format : Format) (entries : List Entry) (filter : List ℕ) (key : StoredKey)
+    (at : ℕ) → FiltersCover → IsFilter (filter_keys format (different_keys entries)) filter
+    → (Covers filter (filter_key format key) → ⊥) → IsUnseen at (Contains entries) key
+denied_unseen format entries filter key at cover exact denied = λ other seen e.
+    let keys = different_keys entries in
+    denied (subst (λ (k : StoredKey). Covers filter (filter_key format k)) e
+    (among_of_All (Covers filter) (filter_keys format keys) (filter_key format other.key)
+    (cover (filter_keys format keys) filter exact)
+    (held_among format keys other.key
+    (key_among entries other (among_from_Contains entries other seen.0)))))

@@ -6,6 +6,7 @@ use Rattle.std.specs.List.{slice_get}
 use Rattle.std.specs.Rc.{rc_slice_items}
 use Rattle.disk.specs.{IsEnvironmental, State}
 use Rattle.table_format.specs.{IsBlock, block_entries}
+use Rattle.byte_fields.specs.declared.format.Format.{Format}
 use Rattle.table_format.specs.declared.IndexLine.{IndexLine}
 use Rattle.table_format.specs.declared.FileError.{FileError}
 use Rattle.table_format.specs.declared.FileError.TheVariants as reading
@@ -18,41 +19,48 @@ use Rattle.sorted_table.specs.TableCursors.{HasLines, IsPlaceIn}
 use Rattle.sorted_table.proofs.BlockNumbers.{BlockNumber, block_number, length-block_lines}
 
 -- the block of a line of a table
-pub block_of_line : (disk : State) (file : ℕ) (lines : List IndexLine) (n : ℕ) (line : IndexLine)
-    (t : HasLines (disk file) lines) → n < length lines → slice_get lines n ≡ Some line
-    → BlockNumber t.bytes t.represents.blocks line n
-block_of_line disk file lines n line t within at =
-    block_number t.bytes t.entries t.represents n line
-    (omega (arith, within, ap length t.indexed, length-block_lines 0 t.represents.blocks))
+pub block_of_line : (format : Format) (disk : State) (file : ℕ) (lines : List IndexLine) (n : ℕ)
+    (line : IndexLine)
+    (t : HasLines format (disk file) lines) → n < length lines → slice_get lines n ≡ Some line
+    → BlockNumber format t.bytes t.represents.blocks line n
+block_of_line format disk file lines n line t within at =
+    block_number format t.bytes t.entries t.represents n line
+    (omega (arith, within, ap length t.indexed, length-block_lines format 0 t.represents.blocks))
     (ap (λ l. slice_get l n) (sym t.indexed) ∙ at)
 
-pub block_answer : (disk : State) (file : ℕ) (lines : List IndexLine) (n : ℕ) (line : IndexLine)
-    (t : HasLines (disk file) lines) (b : BlockNumber t.bytes t.represents.blocks line n)
+pub block_answer : (format : Format) (disk : State) (file : ℕ) (lines : List IndexLine) (n : ℕ)
+    (line : IndexLine)
+    (t : HasLines format (disk file) lines)
+    (b : BlockNumber format t.bytes t.represents.blocks line n)
     (result : Result CheckedBlock FileError)
-    → BlockAnswer disk file line.place line.len result
-    → MatchResult result (λ block. IsBlock (rc_slice_items block.bytes) (block_entries b.block))
+    → BlockAnswer disk file line.place line.len format result
+    → MatchResult result
+    (λ block. IsBlock block.format (rc_slice_items block.bytes) (block_entries b.block))
     (IsEnvironmental reading.Disk reading.Memory)
-block_answer disk file lines n line t b (Ok block) answer =
-    let is = known_block_answered disk file line.place line.len (Ok block) t.bytes
+block_answer format disk file lines n line t b (Ok block) answer =
+    let is = known_block_answered disk file line.place line.len format (Ok block) t.bytes
     (block_entries b.block) answer t.present b.within b.is_block in
-    subst (λ part. IsBlock part (block_entries b.block)) (sym is) b.is_block
-block_answer disk file lines n line t b (Err e) answer =
-    known_block_answered disk file line.place line.len (Err e) t.bytes
+    subst (λ f. IsBlock f (rc_slice_items block.bytes) (block_entries b.block)) (sym answer.2)
+    (subst (λ part. IsBlock format part (block_entries b.block)) (sym is) b.is_block)
+block_answer format disk file lines n line t b (Err e) answer =
+    known_block_answered disk file line.place line.len format (Err e) t.bytes
     (block_entries b.block) answer t.present b.within b.is_block
 
 -- the place in the block
-pub place_in : (disk : State) (file : ℕ) (lines : List IndexLine) (n : ℕ) (line : IndexLine)
-    (t : HasLines (disk file) lines) (b : BlockNumber t.bytes t.represents.blocks line n)
+pub place_in : (format : Format) (disk : State) (file : ℕ) (lines : List IndexLine) (n : ℕ)
+    (line : IndexLine)
+    (t : HasLines format (disk file) lines)
+    (b : BlockNumber format t.bytes t.represents.blocks line n)
     (it : Option BlockPlace) → IfSome it (λ place. (place.line ≡ n) × (place.at ≡ 0))
     → IsSomeAnd it (λ place. PlaceReads place (block_entries b.block))
     → IfOk (ok_or it reading.Damaged) (IsPlaceIn t.represents.blocks)
-place_in disk file lines n line t b (Some place) is reads =
+place_in format disk file lines n line t b (Some place) is reads =
     record {
       block = b.block;
       present = ap (slice_get t.represents.blocks) is.0 ∙ b.present;
       reads = reads;
     }
-place_in disk file lines n line t b None is reads = tt
+place_in format disk file lines n line t b None is reads = tt
 
 -- ---- refusals
 

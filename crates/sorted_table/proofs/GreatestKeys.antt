@@ -11,6 +11,7 @@ use Rattle.kv_types.specs.{Entry}
 use Rattle.table_format.specs.RisingLemmas.{last_push}
 use Rattle.table_format.specs.{Block, block_bytes, block_entries, block_lines, entries_of_blocks}
 use Rattle.table_format.specs.{last_entry}
+use Rattle.byte_fields.specs.declared.format.Format.{Format}
 use Rattle.table_format.specs.declared.IndexLine.{IndexLine}
 use Rattle.sorted_table.specs.Open.{TableServes, greatest_key, index_lines, last_line_key}
 use Rattle.sorted_table.specs.declared.table.Table.{Table}
@@ -39,23 +40,23 @@ greatest_behind b next blocks =
     ∙ ap (option_map (λ (e : Entry). e.key)) (last_behind (block_entries b) others some)
 
 -- the last line of an index has the key of the last entry
-pub last_key : (place : ℕ) (blocks : List Block)
+pub last_key : (format : Format) (place : ℕ) (blocks : List Block)
     → option_map (λ (line : IndexLine). line.key)
-    (slice_get (block_lines place blocks) (length (block_lines place blocks) - 1))
+    (slice_get (block_lines format place blocks) (length (block_lines format place blocks) - 1))
     ≡ greatest_key (entries_of_blocks blocks)
-last_key place [] = refl
-last_key place (b ∷ []) =
+last_key format place [] = refl
+last_key format place (b ∷ []) =
     sym (ap greatest_key (flat_map-cons block_entries b [])
     ∙ ap (λ (l : List Entry). greatest_key l) (append-nil (block_entries b))
     ∙ ap (option_map (λ (e : Entry). e.key)) (last_push b.front b.last))
-last_key place (b ∷ next ∷ blocks) =
-    let behind = place + length (block_bytes b) in
-    let lines = block_lines behind (next ∷ blocks) in
-    let at : length (block_lines place (b ∷ next ∷ blocks)) - 1 ≡ suc (length lines - 1) =
+last_key format place (b ∷ next ∷ blocks) =
+    let behind = place + length (block_bytes format b) in
+    let lines = block_lines format behind (next ∷ blocks) in
+    let at : length (block_lines format place (b ∷ next ∷ blocks)) - 1 ≡ suc (length lines - 1) =
     omega arith in
     ap (λ (i : ℕ). option_map (λ (line : IndexLine). line.key)
-    (slice_get (block_lines place (b ∷ next ∷ blocks)) i)) at
-    ∙ (last_key behind (next ∷ blocks) ∙ sym (greatest_behind b next blocks))
+    (slice_get (block_lines format place (b ∷ next ∷ blocks)) i)) at
+    ∙ (last_key format behind (next ∷ blocks) ∙ sym (greatest_behind b next blocks))
 
 -- the key of the last of some lines, which stands at the last place
 pub last_line_is : (lines : List IndexLine)
@@ -82,4 +83,5 @@ pub served_greatest : (file : Slot) (table : Table) (entries : List Entry) (line
 served_greatest file table entries lines are serves =
     ap (λ (all : List IndexLine). option_map (λ (line : IndexLine). line.key)
     (slice_get all (length all - 1))) (are ∙ serves.lines)
-    ∙ (last_key 0 serves.represents.blocks ∙ sym (ap greatest_key serves.represents.division))
+    ∙ (last_key table.format 0 serves.represents.blocks
+    ∙ sym (ap greatest_key serves.represents.division))

@@ -14,10 +14,11 @@ use Rattle.merge_iter.specs.{EntryPrecedes, chain, spot}
 use Rattle.merge_iter.specs.declared.Direction.TheVariants.{Forward}
 use Rattle.table_format.specs.FrontsLemmas.{IsShortBlock, few_entries, length-block_part}
 use Rattle.table_format.specs.FrontsLemmas.{split_each}
-use Rattle.table_format.specs.{Block, IsBlock, IsTableEntry, TableRepresents, block_bytes}
+use Rattle.table_format.specs.{Block, IsBlock, IsEntryOf, TableRepresentsIn, block_bytes}
 use Rattle.table_format.specs.{block_entries, block_line, block_lines}
 use Rattle.table_format.specs.{data_bytes, entries_of_blocks, filter_part, footer_part, index_part}
 use Rattle.table_format.specs.{table_footer}
+use Rattle.byte_fields.specs.declared.format.Format.{Format}
 use Rattle.table_format.specs.declared.IndexLine.{IndexLine}
 use Rattle.sorted_table.specs.Searches.{EndsEarlier, IsEarlier}
 
@@ -60,97 +61,110 @@ last_there b = among_right b.front (b.last ∷ []) b.last (inl refl)
 -- ---- the block of a line
 
 -- the blocks before that of a line, it, and those behind it
-pub record BlockOf (place : ℕ) (blocks : List Block) (before : List IndexLine) (line : IndexLine)
+pub record BlockOf (format : Format) (place : ℕ) (blocks : List Block) (before : List IndexLine)
+    (line : IndexLine)
     : Type 0 where
   pub done : List Block
   pub block : Block
   pub others : List Block
   pub split : blocks ≡ done ++ block ∷ others
-  pub lines : before ≡ block_lines place done
-  pub is : line ≡ block_line (place + length (data_bytes done)) block
+  pub lines : before ≡ block_lines format place done
+  pub is : line ≡ block_line format (place + length (data_bytes format done)) block
 
-data_size : (b : Block) (blocks : List Block)
-    → length (data_bytes (b ∷ blocks)) ≡ length (block_bytes b) + length (data_bytes blocks)
-data_size b blocks =
-    ap length (flat_map-cons block_bytes b blocks)
-    ∙ length-append (block_bytes b) (data_bytes blocks)
+data_size : (format : Format) (b : Block) (blocks : List Block)
+    → length (data_bytes format (b ∷ blocks)) ≡ length (block_bytes format b) + length
+    (data_bytes format blocks)
+data_size format b blocks =
+    ap length (flat_map-cons (block_bytes format) b blocks)
+    ∙ length-append (block_bytes format b) (data_bytes format blocks)
 
-pub block_of : (place : ℕ) (blocks : List Block) (before : List IndexLine) (line : IndexLine)
-    (after : List IndexLine) → block_lines place blocks ≡ before ++ line ∷ after
-    → BlockOf place blocks before line
-block_of place [] [] line after e = absurd cc
-block_of place [] (x ∷ before) line after e = absurd cc
-block_of place (b ∷ blocks) [] line after e =
-    let first : block_line place b ≡ line = cc in
+pub block_of : (format : Format) (place : ℕ) (blocks : List Block) (before : List IndexLine)
+    (line : IndexLine)
+    (after : List IndexLine) → block_lines format place blocks ≡ before ++ line ∷ after
+    → BlockOf format place blocks before line
+block_of format place [] [] line after e = absurd cc
+block_of format place [] (x ∷ before) line after e = absurd cc
+block_of format place (b ∷ blocks) [] line after e =
+    let first : block_line format place b ≡ line = cc in
     record {
       done = [];
       block = b;
       others = blocks;
       split = refl;
       lines = refl;
-      is = sym first ∙ ap (λ (p : ℕ). block_line p b) (omega arith);
+      is = sym first ∙ ap (λ (p : ℕ). block_line format p b) (omega arith);
     }
-block_of place (b ∷ blocks) (x ∷ before) line after e =
-    let first : block_line place b ≡ x = cc in
-    let rest : block_lines (place + length (block_bytes b)) blocks ≡ before ++ line ∷ after = cc in
-    let below = block_of (place + length (block_bytes b)) blocks before line after rest in
-    let at : place + length (block_bytes b) + length (data_bytes below.done)
-    ≡ place + length (data_bytes (b ∷ below.done)) = omega (arith, data_size b below.done) in
+block_of format place (b ∷ blocks) (x ∷ before) line after e =
+    let first : block_line format place b ≡ x = cc in
+    let rest : block_lines format (place + length (block_bytes format b)) blocks ≡ before
+    ++ line ∷ after = cc in
+    let below = block_of format (place + length (block_bytes format b)) blocks before line after
+    rest in
+    let at : place + length (block_bytes format b) + length (data_bytes format below.done)
+    ≡ place + length (data_bytes format (b ∷ below.done)) = omega
+    (arith, data_size format b below.done) in
     record {
       done = b ∷ below.done;
       block = below.block;
       others = below.others;
       split = ap (λ (l : List Block). b ∷ l) below.split;
       lines = ap (λ (l : IndexLine). l ∷ before) (sym first)
-          ∙ ap (λ (l : List IndexLine). block_line place b ∷ l) below.lines;
-      is = below.is ∙ ap (λ (p : ℕ). block_line p below.block) at;
+          ∙ ap (λ (l : List IndexLine). block_line format place b ∷ l) below.lines;
+      is = below.is ∙ ap (λ (p : ℕ). block_line format p below.block) at;
     }
 
 -- the block of a line of a table: it is in the file, and its entries are among the table's
-pub record LineBlock (bytes : List ℕ) (entries : List Entry) (before : List IndexLine)
+pub record LineBlock (format : Format) (bytes : List ℕ) (entries : List Entry)
+    (before : List IndexLine)
     (line : IndexLine) : Type 0 where
   pub done : List Block
   pub block : Block
   pub others : List Block
-  pub lines : before ≡ block_lines 0 done
-  pub is : line ≡ block_line (length (data_bytes done)) block
+  pub lines : before ≡ block_lines format 0 done
+  pub is : line ≡ block_line format (length (data_bytes format done)) block
   pub split : entries
       ≡ entries_of_blocks done ++ (block_entries block ++ entries_of_blocks others)
-  pub is_block : IsBlock (take line.len (drop line.place bytes)) (block_entries block)
+  pub is_block : IsBlock format (take line.len (drop line.place bytes)) (block_entries block)
   pub within : line.place + line.len ≤ length bytes
 
 -- a block of a table, behind some and before some: it is in the file, and its entries are among the
 -- table's
-pub record BlockIn (bytes : List ℕ) (entries : List Entry) (done : List Block) (block : Block)
+pub record BlockIn (format : Format) (bytes : List ℕ) (entries : List Entry) (done : List Block)
+    (block : Block)
     (others : List Block) : Type 0 where
   pub split : entries
       ≡ entries_of_blocks done ++ (block_entries block ++ entries_of_blocks others)
-  pub is_block : IsBlock
-      (take (length (block_bytes block)) (drop (length (data_bytes done)) bytes))
+  pub is_block : IsBlock format
+      (take (length (block_bytes format block)) (drop (length (data_bytes format done)) bytes))
       (block_entries block)
-  pub within : length (data_bytes done) + length (block_bytes block) ≤ length bytes
+  pub within : length (data_bytes format done) + length (block_bytes format block) ≤ length bytes
 
-pub block_in : (bytes : List ℕ) (entries : List Entry) (s : TableRepresents bytes entries)
+pub block_in : (format : Format) (bytes : List ℕ) (entries : List Entry)
+    (s : TableRepresentsIn format bytes entries)
     (done : List Block) (block : Block) (others : List Block)
-    → s.blocks ≡ done ++ block ∷ others → BlockIn bytes entries done block others
-block_in bytes entries s done block others parted =
+    → s.blocks ≡ done ++ block ∷ others → BlockIn format bytes entries done block others
+block_in format bytes entries s done block others parted =
     let one = block_entries block in
-    let text = block_bytes block in
-    let place = length (data_bytes done) in
+    let text = block_bytes format block in
+    let place = length (data_bytes format done) in
     let len = length text in
-    let tail = filter_part s.filter ++ (index_part (block_lines 0 s.blocks)
-    ++ footer_part (table_footer s.blocks s.filter)) in
-    let blocks : data_bytes s.blocks ≡ data_bytes done ++ (text ++ data_bytes others) =
-    ap data_bytes parted ∙ flat_map-append block_bytes done (block ∷ others)
-    ∙ ap (λ (l : List ℕ). data_bytes done ++ l) (flat_map-cons block_bytes block others) in
-    let spelled : bytes ≡ data_bytes done ++ (text ++ (data_bytes others ++ tail)) =
+    let tail = filter_part s.filter ++ (index_part format (block_lines format 0 s.blocks)
+    ++ footer_part (table_footer format s.blocks s.filter)) in
+    let blocks : data_bytes format s.blocks ≡ data_bytes format done
+    ++ (text ++ data_bytes format others) =
+    ap (data_bytes format) parted ∙ flat_map-append (block_bytes format) done (block ∷ others)
+    ∙ ap (λ (l : List ℕ). data_bytes format done ++ l)
+    (flat_map-cons (block_bytes format) block others) in
+    let spelled : bytes ≡ data_bytes format done ++ (text ++ (data_bytes format others ++ tail)) =
     s.spelled ∙ ap (λ (l : List ℕ). l ++ tail) blocks
-    ∙ append_assoc (data_bytes done) (text ++ data_bytes others) tail
-    ∙ ap (λ (l : List ℕ). data_bytes done ++ l) (append_assoc text (data_bytes others) tail) in
+    ∙ append_assoc (data_bytes format done) (text ++ data_bytes format others) tail
+    ∙ ap (λ (l : List ℕ). data_bytes format done ++ l)
+    (append_assoc text (data_bytes format others) tail) in
     let there : take len (drop place bytes) ≡ text =
     ap (λ (b : List ℕ). take len (drop place b)) spelled
-    ∙ ap (take len) (drop_at (data_bytes done) (text ++ (data_bytes others ++ tail)) place refl)
-    ∙ take_at text (data_bytes others ++ tail) len refl in
+    ∙ ap (take len) (drop_at (data_bytes format done) (text ++ (data_bytes format others ++ tail))
+    place refl)
+    ∙ take_at text (data_bytes format others ++ tail) len refl in
     let all : entries ≡ entries_of_blocks done ++ (one ++ entries_of_blocks others) =
     s.division ∙ ap entries_of_blocks parted
     ∙ flat_map-append block_entries done (block ∷ others)
@@ -159,37 +173,41 @@ block_in bytes entries s done block others parted =
     let rises = subst (Rises Up) all (rises_from_AllPairs Up entries s.rising) in
     let back = (rising_parts (entries_of_blocks done) (one ++ entries_of_blocks others) rises).back
     in
-    let each = split_each IsTableEntry (entries_of_blocks done) (one ++ entries_of_blocks others)
-    (subst (AllByRecursion IsTableEntry) all (recursion_from_All IsTableEntry entries s.each)) in
-    let small = (split_each IsShortBlock done (block ∷ others)
-    (subst (AllByRecursion IsShortBlock) parted
-    (recursion_from_All IsShortBlock s.blocks s.fits.each))).1.0 in
+    let each = split_each (IsEntryOf format) (entries_of_blocks done)
+    (one ++ entries_of_blocks others)
+    (subst (AllByRecursion (IsEntryOf format)) all
+    (recursion_from_All (IsEntryOf format) entries s.each)) in
+    let small = (split_each (IsShortBlock format) done (block ∷ others)
+    (subst (AllByRecursion (IsShortBlock format)) parted
+    (recursion_from_All (IsShortBlock format) s.blocks s.fits.each))).1.0 in
     record {
       split = all;
       is_block = record {
         spelled = there;
         some = omega (arith, length-append block.front (block.last ∷ []));
-        few = omega (arith, few_entries one, length-block_part one, small);
-        each = All-from_recursion IsTableEntry one
-            (split_each IsTableEntry one (entries_of_blocks others) each.1).0;
+        few = omega (arith, few_entries format one, length-block_part format one, small);
+        each = All-from_recursion (IsEntryOf format) one
+            (split_each (IsEntryOf format) one (entries_of_blocks others) each.1).0;
         rising = AllPairs-rises Up one (rising_parts one (entries_of_blocks others) back).front;
       };
       within = omega (
         arith,
         ap length spelled,
-        length-append (data_bytes done) (text ++ (data_bytes others ++ tail)),
-        length-append text (data_bytes others ++ tail),
+        length-append (data_bytes format done) (text ++ (data_bytes format others ++ tail)),
+        length-append text (data_bytes format others ++ tail),
       );
     }
 
-pub line_block : (bytes : List ℕ) (entries : List Entry) (s : TableRepresents bytes entries)
+pub line_block : (format : Format) (bytes : List ℕ) (entries : List Entry)
+    (s : TableRepresentsIn format bytes entries)
     (before : List IndexLine) (line : IndexLine) (after : List IndexLine)
-    → block_lines 0 s.blocks ≡ before ++ line ∷ after → LineBlock bytes entries before line
-line_block bytes entries s before line after e =
-    let p = block_of 0 s.blocks before line after e in
-    let b = block_in bytes entries s p.done p.block p.others p.split in
-    let is : line ≡ block_line (length (data_bytes p.done)) p.block =
-    p.is ∙ ap (λ (n : ℕ). block_line n p.block) (omega arith) in
+    → block_lines format 0 s.blocks ≡ before ++ line ∷ after
+    → LineBlock format bytes entries before line
+line_block format bytes entries s before line after e =
+    let p = block_of format 0 s.blocks before line after e in
+    let b = block_in format bytes entries s p.done p.block p.others p.split in
+    let is : line ≡ block_line format (length (data_bytes format p.done)) p.block =
+    p.is ∙ ap (λ (n : ℕ). block_line format n p.block) (omega arith) in
     record {
       done = p.done;
       block = p.block;
@@ -197,7 +215,7 @@ line_block bytes entries s before line after e =
       lines = p.lines;
       is = is;
       split = b.split;
-      is_block = subst (λ (l : IndexLine). IsBlock (take l.len (drop l.place bytes))
+      is_block = subst (λ (l : IndexLine). IsBlock format (take l.len (drop l.place bytes))
           (block_entries p.block)) (sym is) b.is_block;
       within = subst (λ (l : IndexLine). l.place + l.len ≤ length bytes) (sym is) b.within;
     }
@@ -224,17 +242,18 @@ early_in b key at rises last z a = elim (in_two b.front (b.last ∷ []) z a) [
 ]
 
 -- entries of blocks that end before the spot
-pub early_entries : (place : ℕ) (done : List Block) (key : StoredKey) (at : ℕ)
+pub early_entries : (format : Format) (place : ℕ) (done : List Block) (key : StoredKey) (at : ℕ)
     → Rises (EntryPrecedes Forward) (entries_of_blocks done)
-    → AllByRecursion (EndsEarlier (spot key at)) (block_lines place done)
+    → AllByRecursion (EndsEarlier (spot key at)) (block_lines format place done)
     → (z : Entry) → Among z (entries_of_blocks done) → IsEarlier (spot key at) z
-early_entries place [] key at rises early z a = absurd a
-early_entries place (b ∷ done) key at rises early z a =
+early_entries format place [] key at rises early z a = absurd a
+early_entries format place (b ∷ done) key at rises early z a =
     let cut = flat_map-cons block_entries b done in
     let parts = rising_parts (block_entries b) (entries_of_blocks done)
     (subst (Rises Up) cut rises) in
     elim (in_two (block_entries b) (entries_of_blocks done) z (subst (Among z) cut a)) [
       | inl mine ↦ early_in b key at parts.front early.0 z mine
-      | inr below ↦ early_entries (place + length (block_bytes b)) done key at parts.back early.1 z
+      | inr below ↦ early_entries format (place + length (block_bytes format b)) done key at
+          parts.back early.1 z
           below
     ]

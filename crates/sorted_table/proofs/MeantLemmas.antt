@@ -20,6 +20,7 @@ use Rattle.table_format.specs.RisingLemmas.{last_push}
 use Rattle.table_format.specs.{Block, IsBlock, IsCheckedBlock}
 use Rattle.table_format.specs.{block_entries, block_line, data_bytes, end_spot}
 use Rattle.table_format.specs.{entries_of_blocks}
+use Rattle.byte_fields.specs.declared.format.Format.{Format}
 use Rattle.table_format.specs.declared.IndexLine.{IndexLine}
 use Rattle.table_format.specs.declared.FileError.{FileError}
 use Rattle.table_format.specs.declared.FileError.TheVariants as reading
@@ -36,10 +37,12 @@ never_twice x y = absurd x
 -- ---- what a read answers
 
 -- a block at a line is a block that the file has there
-pub parts_of : (lines : List IndexLine) (n : ℕ) (file : Slot) (part : List ℕ) (line : IndexLine)
-    → IsBlockAtLine lines n file part → slice_get lines n ≡ Some line
-    → (length part ≡ line.len) × IsPartAt (seen file) line.place part × ∥ IsCheckedBlock part ∥₁
-parts_of lines n file part line is at =
+pub parts_of : (format : Format) (lines : List IndexLine) (n : ℕ) (file : Slot) (part : List ℕ)
+    (line : IndexLine)
+    → IsBlockAtLine format lines n file part → slice_get lines n ≡ Some line
+    → (length part ≡ line.len) × IsPartAt (seen file) line.place part
+    × ∥ IsCheckedBlock format part ∥₁
+parts_of format lines n file part line is at =
     let same : is.line ≡ line = some_is is.line line (sym is.at ∙ at) in (
       is.len ∙ ap (λ (l : IndexLine). l.len) same,
       subst (λ (l : IndexLine). IsPartAt (seen file) l.place part) same is.there,
@@ -47,23 +50,26 @@ parts_of lines n file part line is at =
     )
 
 -- so it is an answer of a read
-pub line_read : (disk : State) (file : ℕ) (lines : List IndexLine) (n : ℕ) (line : IndexLine)
-    (block : CheckedBlock) → slice_get lines n ≡ Some line
-    → IsBlockAtLine lines n (disk file) (rc_slice_items block.bytes)
-    → BlockAnswer disk file line.place line.len (Ok block)
-line_read disk file lines n line block at is =
-    let p = parts_of lines n (disk file) (rc_slice_items block.bytes) line is at in
-    (p.0, (p.1, p.2))
+pub line_read : (format : Format) (disk : State) (file : ℕ) (lines : List IndexLine) (n : ℕ)
+    (line : IndexLine)
+    (block : CheckedBlock) → block.format ≡ format → slice_get lines n ≡ Some line
+    → IsBlockAtLine format lines n (disk file) (rc_slice_items block.bytes)
+    → BlockAnswer disk file line.place line.len format (Ok block)
+line_read format disk file lines n line block read_in at is =
+    let p = parts_of format lines n (disk file) (rc_slice_items block.bytes) line is at in
+    (p.0, (p.1, p.2), read_in)
 
 -- a read that is damaged finds no block at the line
-pub unread_line : (disk : State) (file : ℕ) (lines : List IndexLine) (n : ℕ) (line : IndexLine)
+pub unread_line : (format : Format) (disk : State) (file : ℕ) (lines : List IndexLine) (n : ℕ)
+    (line : IndexLine)
     (e : FileError) → slice_get lines n ≡ Some line
-    → BlockAnswer disk file line.place line.len (Err e)
-    → LineBlockAnswer lines n (disk file) (Err e)
-unread_line disk file lines n line e at answer damaged part is =
-    let none = subst (λ (why : FileError). BlockAnswer disk file line.place line.len (Err why))
+    → BlockAnswer disk file line.place line.len format (Err e)
+    → LineBlockAnswer format lines n (disk file) (Err e)
+unread_line format disk file lines n line e at answer damaged part is =
+    let none = subst (λ (why : FileError). BlockAnswer disk file line.place line.len format
+    (Err why))
     damaged answer in
-    let p = parts_of lines n (disk file) part line is at in
+    let p = parts_of format lines n (disk file) part line is at in
     none part p.0 (p.1, p.2)
 
 -- the part of a file, by its length
@@ -76,34 +82,42 @@ one_part (Some bytes) place a b len is other =
     sym left ∙ ap (λ (n : ℕ). take n (drop place bytes)) len ∙ right
 
 -- a block that was read and does not lie where the line says is none at the line
-pub misplaced : (disk : State) (file : ℕ) (lines : List IndexLine) (n : ℕ) (line : IndexLine)
+pub misplaced : (format : Format) (disk : State) (file : ℕ) (lines : List IndexLine) (n : ℕ)
+    (line : IndexLine)
     (block : CheckedBlock) → slice_get lines n ≡ Some line
-    → BlockAnswer disk file line.place line.len (Ok block)
-    → ((entries : List Entry) → IsBlock (rc_slice_items block.bytes) entries
+    → BlockAnswer disk file line.place line.len format (Ok block)
+    → ((entries : List Entry) → IsBlock block.format (rc_slice_items block.bytes) entries
     → AreAtLine lines n line entries → ⊥)
-    → (e : FileError) → LineBlockAnswer lines n (disk file) (Err e)
-misplaced disk file lines n line block at answer never e damaged part is =
-    let p = parts_of lines n (disk file) part line is at in
+    → (e : FileError) → LineBlockAnswer format lines n (disk file) (Err e)
+misplaced format disk file lines n line block at answer never e damaged part is =
+    let p = parts_of format lines n (disk file) part line is at in
     let same : part ≡ rc_slice_items block.bytes = one_part (seen (disk file)) line.place part
     (rc_slice_items block.bytes) (p.0 ∙ sym answer.0) p.1 answer.1.0 in
     ∥∥₁_elim is.checked never_twice (λ it.
-    never it.0 (subst (λ (b : List ℕ). IsBlock b it.0) same it.1)
+    never it.0 (subst (λ (f : Format). IsBlock f (rc_slice_items block.bytes) it.0) (sym answer.2)
+    (subst (λ (b : List ℕ). IsBlock format b it.0) same it.1))
     (subst (λ (l : IndexLine). AreAtLine lines n l it.0)
     (some_is is.line line (sym is.at ∙ at)) it.2))
 
 -- a block that was read and lies where the line says is the one at the line
-pub placed : (disk : State) (file : ℕ) (lines : List IndexLine) (n : ℕ) (line : IndexLine)
+pub placed : (format : Format) (disk : State) (file : ℕ) (lines : List IndexLine) (n : ℕ)
+    (line : IndexLine)
     (block : CheckedBlock) → slice_get lines n ≡ Some line
-    → BlockAnswer disk file line.place line.len (Ok block)
-    → ((entries : List Entry) → IsBlock (rc_slice_items block.bytes) entries
+    → BlockAnswer disk file line.place line.len format (Ok block)
+    → ((entries : List Entry) → IsBlock block.format (rc_slice_items block.bytes) entries
     → AreAtLine lines n line entries)
-    → LineBlockAnswer lines n (disk file) (Ok block)
-placed disk file lines n line block at answer lies = record {
+    → LineBlockAnswer format lines n (disk file) (Ok block)
+placed format disk file lines n line block at answer lies = record {
   line = line;
   at = at;
   len = answer.0;
   there = answer.1.0;
-  checked = ∥∥₁_map answer.1.1 (λ it. (it.0, it.1, lies it.0 it.1));
+  checked = ∥∥₁_map answer.1.1 (λ it. (
+    it.0,
+    it.1,
+    lies it.0
+        (subst (λ (f : Format). IsBlock f (rc_slice_items block.bytes) it.0) (sym answer.2) it.1),
+  ));
 }
 
 -- an error that is no damage is one of the environment
@@ -141,79 +155,83 @@ last_before (x ∷ blocks) (suc k) (suc n) b lt is =
     (among_right (block_entries x) (entries_of_blocks (take n blocks)) b.last
     (last_before blocks k n b (omega (arith, lt)) is))
 
-module _ (file : Slot) (lines : List IndexLine) (t : HasLines file lines) where
-  -- the line of a block
-  line_is : (n : ℕ) (line : IndexLine) (b : Block) → slice_get lines n ≡ Some line
-      → slice_get t.represents.blocks n ≡ Some b
-      → line ≡ block_line (0 + length (data_bytes (take n t.represents.blocks))) b
-  line_is n line b at there =
-      some_is line (block_line (0 + length (data_bytes (take n t.represents.blocks))) b)
-      (sym at ∙ ap (λ (l : List IndexLine). slice_get l n) t.indexed
-      ∙ line_of 0 t.represents.blocks n b there)
+module _ (format : Format) (file : Slot) (lines : List IndexLine) (t : HasLines format file lines)
+  where
+    -- the line of a block
+    line_is : (n : ℕ) (line : IndexLine) (b : Block) → slice_get lines n ≡ Some line
+        → slice_get t.represents.blocks n ≡ Some b
+        → line ≡ block_line format (0 + length (data_bytes format (take n t.represents.blocks))) b
+    line_is n line b at there =
+        some_is line (block_line format
+        (0 + length (data_bytes format (take n t.represents.blocks))) b)
+        (sym at ∙ ap (λ (l : List IndexLine). slice_get l n) t.indexed
+        ∙ line_of format 0 t.represents.blocks n b there)
 
-  -- the entries of a block come behind those of the blocks before
-  behind : (n k : ℕ) (line before : IndexLine) (b : BlockNumber t.bytes t.represents.blocks line n)
-      (e : Entry) → slice_get (block_entries b.block) 0 ≡ Some e → k + 1 ≡ n
-      → slice_get lines k ≡ Some before → EntryPrecedes Forward (end_spot before) e
-  behind n k line before b e first next at =
-      let blocks = t.represents.blocks in
-      let size : length lines ≡ length blocks = ap length t.indexed ∙ length-block_lines 0 blocks in
-      let short : k < length lines = slice_get_within lines k before at in
-      let p = some_of blocks k (omega (arith, short, size)) in
-      let is = line_is k before p.0 at p.1 in
-      let parted = block_in t.bytes t.entries t.represents (take n blocks) b.block
-      (drop (suc n) blocks) (around blocks n b.block b.present) in
-      let rises = subst (Rises (EntryPrecedes Forward)) parted.split
-      (rises_from_AllPairs (EntryPrecedes Forward) t.entries t.represents.rising) in
-      let across = (rising_parts (entries_of_blocks (take n blocks))
-      (block_entries b.block ++ entries_of_blocks (drop (suc n) blocks)) rises).across p.0.last e
-      (last_before blocks k n p.0 (omega (arith, next)) p.1)
-      (among_left (block_entries b.block) (entries_of_blocks (drop (suc n) blocks)) e
-      (start_among (block_entries b.block) e first)) in
-      subst (λ (l : IndexLine). EntryPrecedes Forward (end_spot l) e) (sym is) across
+    -- the entries of a block come behind those of the blocks before
+    behind : (n k : ℕ) (line before : IndexLine)
+        (b : BlockNumber format t.bytes t.represents.blocks line n)
+        (e : Entry) → slice_get (block_entries b.block) 0 ≡ Some e → k + 1 ≡ n
+        → slice_get lines k ≡ Some before → EntryPrecedes Forward (end_spot before) e
+    behind n k line before b e first next at =
+        let blocks = t.represents.blocks in
+        let size : length lines ≡ length blocks = ap length t.indexed
+        ∙ length-block_lines format 0 blocks in
+        let short : k < length lines = slice_get_within lines k before at in
+        let p = some_of blocks k (omega (arith, short, size)) in
+        let is = line_is k before p.0 at p.1 in
+        let parted = block_in format t.bytes t.entries t.represents (take n blocks) b.block
+        (drop (suc n) blocks) (around blocks n b.block b.present) in
+        let rises = subst (Rises (EntryPrecedes Forward)) parted.split
+        (rises_from_AllPairs (EntryPrecedes Forward) t.entries t.represents.rising) in
+        let across = (rising_parts (entries_of_blocks (take n blocks))
+        (block_entries b.block ++ entries_of_blocks (drop (suc n) blocks)) rises).across p.0.last e
+        (last_before blocks k n p.0 (omega (arith, next)) p.1)
+        (among_left (block_entries b.block) (entries_of_blocks (drop (suc n) blocks)) e
+        (start_among (block_entries b.block) e first)) in
+        subst (λ (l : IndexLine). EntryPrecedes Forward (end_spot l) e) (sym is) across
 
-  -- the entries of a block lie where its line says
-  pub block_lies : (n : ℕ) (line : IndexLine)
-      (b : BlockNumber t.bytes t.represents.blocks line n) → slice_get lines n ≡ Some line
-      → AreAtLine lines n line (block_entries b.block)
-  block_lies n line b at =
-      let is = line_is n line b.block at b.present in
-      record {
-        last = subst (λ (o : Option Entry). IfSome o (HasEndOf line))
-            (sym (last_push b.block.front b.block.last))
-            (record {
-              key = sym (ap (λ (l : IndexLine). l.key) is);
-              number = sym (ap (λ (l : IndexLine). l.number) is);
-            });
-        first = if_there (IsBehindLine lines n) (slice_get (block_entries b.block) 0)
-            (λ e first k before next there. behind n k line before b e first next there);
-      }
+    -- the entries of a block lie where its line says
+    pub block_lies : (n : ℕ) (line : IndexLine)
+        (b : BlockNumber format t.bytes t.represents.blocks line n) → slice_get lines n ≡ Some line
+        → AreAtLine lines n line (block_entries b.block)
+    block_lies n line b at =
+        let is = line_is n line b.block at b.present in
+        record {
+          last = subst (λ (o : Option Entry). IfSome o (HasEndOf line))
+              (sym (last_push b.block.front b.block.last))
+              (record {
+                key = sym (ap (λ (l : IndexLine). l.key) is);
+                number = sym (ap (λ (l : IndexLine). l.number) is);
+              });
+          first = if_there (IsBehindLine lines n) (slice_get (block_entries b.block) 0)
+              (λ e first k before next there. behind n k line before b e first next there);
+        }
 
-  -- the file has a block for each of its lines
-  pub block_there : (n : ℕ) (line : IndexLine)
-      (b : BlockNumber t.bytes t.represents.blocks line n) → slice_get lines n ≡ Some line
-      → IsBlockAtLine lines n file (take line.len (drop line.place t.bytes))
-  block_there n line b at =
-      let part = take line.len (drop line.place t.bytes) in
-      let size : length part ≡ line.len =
-      omega (
-        arith,
-        b.within,
-        length-take line.len (drop line.place t.bytes),
-        length-drop line.place t.bytes,
-      ) in
-      record {
-        line = line;
-        at = at;
-        len = size;
-        there = subst (λ (f : Option (List ℕ)). IsPartAt f line.place part) (sym t.present)
-            (ap Some (ap (λ (n : ℕ). take n (drop line.place t.bytes)) size));
-        checked = ∣ (block_entries b.block, b.is_block, block_lies n line b at) ∣₁;
-      }
+    -- the file has a block for each of its lines
+    pub block_there : (n : ℕ) (line : IndexLine)
+        (b : BlockNumber format t.bytes t.represents.blocks line n) → slice_get lines n ≡ Some line
+        → IsBlockAtLine format lines n file (take line.len (drop line.place t.bytes))
+    block_there n line b at =
+        let part = take line.len (drop line.place t.bytes) in
+        let size : length part ≡ line.len =
+        omega (
+          arith,
+          b.within,
+          length-take line.len (drop line.place t.bytes),
+          length-drop line.place t.bytes,
+        ) in
+        record {
+          line = line;
+          at = at;
+          len = size;
+          there = subst (λ (f : Option (List ℕ)). IsPartAt f line.place part) (sym t.present)
+              (ap Some (ap (λ (n : ℕ). take n (drop line.place t.bytes)) size));
+          checked = ∣ (block_entries b.block, b.is_block, block_lies n line b at) ∣₁;
+        }
 
-  -- so a read for a line is not damaged
-  pub never_damaged : (n : ℕ) (line : IndexLine) (e : FileError)
-      → BlockNumber t.bytes t.represents.blocks line n → slice_get lines n ≡ Some line
-      → LineBlockAnswer lines n file (Err e) → e ≡ reading.Damaged → ⊥
-  never_damaged n line e b at answer damaged =
-      answer damaged (take line.len (drop line.place t.bytes)) (block_there n line b at)
+    -- so a read for a line is not damaged
+    pub never_damaged : (n : ℕ) (line : IndexLine) (e : FileError)
+        → BlockNumber format t.bytes t.represents.blocks line n → slice_get lines n ≡ Some line
+        → LineBlockAnswer format lines n file (Err e) → e ≡ reading.Damaged → ⊥
+    never_damaged n line e b at answer damaged =
+        answer damaged (take line.len (drop line.place t.bytes)) (block_there n line b at)

@@ -8,12 +8,16 @@ use Rattle.std.proofs.lemmas.List.{drop_at, length-drop, length-take, take_all, 
 use Rattle.table_format.specs.PartsLemmas.{footer_again, footer_same}
 use Rattle.table_format.specs.Tables.{footer_content}
 use Rattle.table_format.specs.TablesLemmas.{length-footer}
-use Rattle.table_format.specs.{IsFilterPart, IsFooter, IsIndex, filter_part, footer_part}
+use Rattle.kv_types.specs.{Entry}
+use Rattle.table_format.specs.{IsFilterPart, IsFooter, IsIndex, TableRepresentsIn, filter_part}
+use Rattle.table_format.specs.{footer_part}
 use Rattle.table_format.specs.{index_part}
 use Rattle.table_format.specs.declared.Footer.{Footer}
+use Rattle.byte_fields.specs.declared.format.Format.{Format}
 use Rattle.table_format.specs.declared.IndexLine.{IndexLine}
 use Rattle.sorted_table.specs.declared.tail.Tail.{Tail}
-use Rattle.sorted_table.specs.Tails.{FooterSays, HasReadTail, HasTail, ReadsTail}
+use Rattle.sorted_table.specs.Tails.{FooterSays, HasReadTail, HasTail, IsTail, ReadsTail}
+use Rattle.sorted_table.specs.Tails.{tail_bytes}
 
 -- what holds of the cause holds of the refusal that tells it
 pub refused_so : {T E : Type 0} (result : Result T E) {e : E} (P : T → Type 0) (Q : E → Type 0)
@@ -48,8 +52,10 @@ some_both P Q (Some a) has too = (a, has, too)
 -- bytes whose tail was read and checked have it
 pub tail_there : (bytes part filter : List ℕ) (tail : Tail) (lines : List IndexLine)
     → ReadsTail part tail bytes → IsFilterPart (take tail.filter_len part) filter
-    → IsIndex (drop tail.filter_len part) tail.place lines → HasTail bytes lines filter
+    → IsIndex tail.format (drop tail.filter_len part) tail.place lines
+    → HasTail tail.format bytes lines filter
 tail_there bytes part filter tail lines read is_filter is_index =
+    let format = tail.format in
     let is = read.len in
     let says = read.says in
     let ends = says.ends in
@@ -63,7 +69,7 @@ tail_there bytes part filter tail lines read is_filter is_index =
     omega (arith, length-drop tail.place bytes, ends, is) in
     let len_part : length part ≡ tail.len =
     omega (arith, ap length read.content, length-take tail.len rest, len_rest, ends, is) in
-    let parts : part ≡ filter_part filter ++ index_part lines =
+    let parts : part ≡ filter_part filter ++ index_part format lines =
     sym (take-append-drop tail.filter_len part)
     ∙ ap (λ (l : List ℕ). l ++ drop tail.filter_len part) is_filter.spelled
     ∙ ap (λ (l : List ℕ). filter_part filter ++ l) is_index.spelled in
@@ -75,11 +81,11 @@ tail_there bytes part filter tail lines read is_filter is_index =
       len_part,
       within,
     ) in
-    let len_index : length (filter_part filter) + length (index_part lines) ≡ tail.len =
+    let len_index : length (filter_part filter) + length (index_part format lines) ≡ tail.len =
     omega (
       arith,
       ap length parts,
-      length-append (filter_part filter) (index_part lines),
+      length-append (filter_part filter) (index_part format lines),
       len_part,
     ) in
     let all : bytes ≡ (front ++ part) ++ foot =
@@ -105,11 +111,12 @@ tail_there bytes part filter tail lines read is_filter is_index =
       footer = says.footer;
       spelled = all ∙ append_assoc front part foot
           ∙ ap (λ (l : List ℕ). front ++ l) (ap (λ (l : List ℕ). l ++ foot) parts
-          ∙ append_assoc (filter_part filter) (index_part lines) foot
-          ∙ ap (λ (l : List ℕ). filter_part filter ++ (index_part lines ++ l)) footer);
+          ∙ append_assoc (filter_part filter) (index_part format lines) foot
+          ∙ ap (λ (l : List ℕ). filter_part filter ++ (index_part format lines ++ l)) footer);
       is_filter = subst (λ (p : List ℕ). IsFilterPart p filter) is_filter.spelled is_filter;
-      is_index = subst (λ (n : ℕ). IsIndex (index_part lines) n lines) (sym len_blocks)
-          (subst (λ (p : List ℕ). IsIndex p tail.place lines) is_index.spelled is_index);
+      is_index = subst (λ (n : ℕ). IsIndex format (index_part format lines) n lines)
+          (sym len_blocks)
+          (subst (λ (p : List ℕ). IsIndex format p tail.place lines) is_index.spelled is_index);
       is_footer = subst (λ (p : List ℕ). IsFooter p says.footer) says.is_footer.spelled
           says.is_footer;
       places = record {
@@ -118,7 +125,22 @@ tail_there bytes part filter tail lines read is_filter is_index =
         index = omega (arith, said_index, len_blocks, len_filter);
         index_len = omega (arith, said_index, said_index_len, ends, len_index, len_filter);
       };
+      read_in = says.read_in;
     }
+
+-- the table of these entries in the format, and its tail
+pub record TailIn (format : Format) (bytes : List ℕ) (entries : List Entry) (part : List ℕ)
+    (tail : Tail) : Type 0 where
+  pub table : TableRepresentsIn format bytes entries
+  pub part_is : part ≡ tail_bytes format table.blocks table.filter
+  pub is_tail : IsTail format table.blocks table.filter tail
+
+-- a table has the format of its tail
+pub in_its_format : (format : Format) (bytes : List ℕ) (entries : List Entry) (part : List ℕ)
+    (tail : Tail) → tail.format ≡ format → TailIn format bytes entries part tail
+    → TailIn tail.format bytes entries part tail
+in_its_format format bytes entries part tail read_in it =
+    subst (λ (f : Format). TailIn f bytes entries part tail) (sym read_in) it
 
 pub some_one : {A : Type 0} (P : A → Type 0) (o : Option A) → IsSomeAnd o P
     → (a : A) × (o ≡ Some a) × P a
@@ -156,17 +178,17 @@ footers_are_one part a b one two =
     (footer_same part (footer_content b) b _ two.spelled
     (footer_again part (footer_content b) b two.spelled two) a one).0
 
-module _ (bytes : List ℕ) (lines : List IndexLine) (filter : List ℕ)
-    (h : HasTail bytes lines filter) where
+module _ (format : Format) (bytes : List ℕ) (lines : List IndexLine) (filter : List ℕ)
+    (h : HasTail format bytes lines filter) where
   abbrev middle : List ℕ
-  middle = filter_part filter ++ index_part lines
+  middle = filter_part filter ++ index_part format lines
 
   abbrev foot : List ℕ
   foot = footer_part h.footer
 
   all_is : bytes ≡ h.front ++ (middle ++ foot)
   all_is = h.spelled ∙ ap (λ (l : List ℕ). h.front ++ l)
-      (sym (append_assoc (filter_part filter) (index_part lines) foot))
+      (sym (append_assoc (filter_part filter) (index_part format lines) foot))
 
   ends_at : length h.front + length middle + 52 ≡ length bytes
   ends_at = omega (
@@ -202,11 +224,12 @@ module _ (bytes : List ℕ) (lines : List IndexLine) (filter : List ℕ)
       let filter_len = places.filter_len in
       let index_at = places.index in
       let index_len = places.index_len in
-      let parts = length-append (filter_part filter) (index_part lines) in
+      let parts = length-append (filter_part filter) (index_part format lines) in
       let tail : Tail = record {
         place = length h.front;
         len = length middle;
         filter_len = length (filter_part filter);
+        format = format;
       } in (
         middle,
         tail,
@@ -222,15 +245,24 @@ module _ (bytes : List ℕ) (lines : List IndexLine) (filter : List ℕ)
             index_len = omega (arith, index_at, index_len, parts);
             ends = refl;
             within = omega (arith, parts);
+            read_in = h.read_in;
           };
           content = sym (middle_is (length middle) refl);
         },
       )
 
+  -- the tail that is read there is in the format
+  pub tail_format : (part : List ℕ) (tail : Tail) → ReadsTail part tail bytes → tail.format ≡ format
+  tail_format part tail read =
+      let says = read.says in
+      let same = footers_are_one (take 52 (drop read.end bytes)) says.footer h.footer
+      says.is_footer (footer_is read.end read.len) in
+      sym says.read_in ∙ ap (λ (f : Footer). f.format) same ∙ h.read_in
+
   -- and what is read there is the filter and the index
   pub parts_there : (part : List ℕ) (tail : Tail) → ReadsTail part tail bytes
       → IsFilterPart (take tail.filter_len part) filter
-      × IsIndex (drop tail.filter_len part) tail.place lines
+      × IsIndex tail.format (drop tail.filter_len part) tail.place lines
   parts_there part tail read =
       let says = read.says in
       let same = footers_are_one (take 52 (drop read.end bytes)) says.footer h.footer
@@ -248,11 +280,15 @@ module _ (bytes : List ℕ) (lines : List IndexLine) (filter : List ℕ)
       ∙ middle_is tail.len len in (
         subst (λ (p : List ℕ). IsFilterPart p filter)
             (sym (ap (take tail.filter_len) is
-            ∙ take_at (filter_part filter) (index_part lines) tail.filter_len (sym filter_len)))
+            ∙ take_at (filter_part filter) (index_part format lines) tail.filter_len
+            (sym filter_len)))
             h.is_filter,
-        subst (λ (n : ℕ). IsIndex (drop tail.filter_len part) n lines) (sym place)
-            (subst (λ (p : List ℕ). IsIndex p (length h.front) lines)
+        subst (λ (k : Format). IsIndex k (drop tail.filter_len part) tail.place lines)
+            (sym (tail_format part tail read))
+            (subst (λ (n : ℕ). IsIndex format (drop tail.filter_len part) n lines) (sym place)
+            (subst (λ (p : List ℕ). IsIndex format p (length h.front) lines)
             (sym (ap (drop tail.filter_len) is
-            ∙ drop_at (filter_part filter) (index_part lines) tail.filter_len (sym filter_len)))
-            h.is_index),
+            ∙ drop_at (filter_part filter) (index_part format lines) tail.filter_len
+            (sym filter_len)))
+            h.is_index)),
       )

@@ -13,7 +13,9 @@ use Rattle.merge_iter.specs.declared.Direction.{Direction}
 use Rattle.merge_iter.specs.declared.Direction.TheVariants.{Forward, Backward}
 use Rattle.merge_iter.specs.{After, AtEnd, IfOn, IsFirst, MoveFinds, Position, WalkMeets}
 use Rattle.merge_iter.specs.{WalkStart}
-use Rattle.table_format.specs.{AreRising, Block, TableRepresents, entries_of_blocks}
+use Rattle.table_format.specs.{AreRising, Block, TableRepresents, TableRepresentsIn}
+use Rattle.table_format.specs.{entries_of_blocks}
+use Rattle.byte_fields.specs.declared.format.Format.{Format}
 use Rattle.table_format.specs.declared.IndexLine.{IndexLine}
 use Rattle.sorted_table.specs.declared.block_place.BlockPlace.{BlockPlace}
 use Rattle.sorted_table.specs.Open.{FileRepresents}
@@ -36,13 +38,15 @@ both_ok (Err e) P Q R p q f = tt
 pub here_of : {A : Type 0} (P : A → Type 0) (o : Option A) (x : A) → o ≡ Some x → IfSome o P → P x
 here_of P o x is h = subst (λ p. IfSome p P) is h
 
-represented : (file : Option (List ℕ)) (bytes : List ℕ) (entries : List Entry)
-    → file ≡ Some bytes → TableRepresents bytes entries
+represented : (format : Format) (file : Option (List ℕ)) (bytes : List ℕ) (entries : List Entry)
+    → file ≡ Some bytes → TableRepresentsIn format bytes entries
     → IsSomeAnd file (λ bytes. TableRepresents bytes entries)
-represented file bytes entries is r =
-    subst (λ f. IsSomeAnd f (λ bytes. TableRepresents bytes entries)) (sym is) r
+represented format file bytes entries is r =
+    subst (λ f. IsSomeAnd f (λ bytes. TableRepresents bytes entries)) (sym is)
+    (record { format = format; table = r })
 
-module _ (file : Slot) (lines : List IndexLine) (t : HasLines file lines) where
+module _ (format : Format) (file : Slot) (lines : List IndexLine)
+    (t : HasLines format file lines) where
   abbrev pub blocks : List Block
   blocks = t.represents.blocks
 
@@ -56,7 +60,7 @@ module _ (file : Slot) (lines : List IndexLine) (t : HasLines file lines) where
   pub has_all : FileRepresents file all
   has_all =
       subst (FileRepresents file) t.represents.division
-      (represented (seen file) t.bytes t.entries t.present t.represents)
+      (represented format (seen file) t.bytes t.entries t.present t.represents)
 
   pub holds_all : (e : Entry) → Contains all e ↔ FileHolds file e
   holds_all e = (
@@ -65,7 +69,7 @@ module _ (file : Slot) (lines : List IndexLine) (t : HasLines file lines) where
   )
 
   pub all_lines : length lines ≡ length blocks
-  all_lines = ap length t.indexed ∙ length-block_lines 0 blocks
+  all_lines = ap length t.indexed ∙ length-block_lines format 0 blocks
 
   -- what is first among the table's entries is first among the file's
   pub first_held : (way : Direction) (start : WalkStart) (s : Position)
@@ -98,7 +102,7 @@ module _ (file : Slot) (lines : List IndexLine) (t : HasLines file lines) where
   finds_first result failed place entered reads =
       both_ok result _ _ _ entered reads (λ e r.
       first_at Forward AtEnd (table_position failed place) 0
-      (entered_forward blocks lines 0 failed place t.indexed e.0 e.1 r)
+      (entered_forward format blocks lines 0 failed place t.indexed e.0 e.1 r)
       (first_of_all all all_rising))
 
   last_place : (n : ℕ) → n + 1 ≡ length lines → first_number blocks (n + 1) ≡ length all
@@ -129,7 +133,7 @@ module _ (file : Slot) (lines : List IndexLine) (t : HasLines file lines) where
       let end = last_place n (omega (arith, is, some)) in
       both_ok result _ _ _ entered reads (λ e r.
       first_at Backward AtEnd (table_position failed place) (length all - 1)
-      (entered_backward blocks lines n (length all - 1) failed place t.indexed
+      (entered_backward format blocks lines n (length all - 1) failed place t.indexed
       (omega (arith, is, some)) e.1 r (omega (arith, any, end)))
       (last_of_all all (length all - 1) all_rising (omega (arith, any))))
 
@@ -179,7 +183,7 @@ module _ (file : Slot) (lines : List IndexLine) (t : HasLines file lines) where
       omega (arith, behind, count, last) in
       both_ok result _ _ _ entered reads (λ f r.
       first_at Forward (After e) (table_position failed place) (number_of blocks p + 1)
-      (entered_forward blocks lines n failed place t.indexed f.0 f.1 r
+      (entered_forward format blocks lines n failed place t.indexed f.0 f.1 r
       ∙ ap (λ k. entry_position (slice_get all k)) number)
       (next_of all (number_of blocks p) e all_rising at)))
 
@@ -243,5 +247,6 @@ module _ (file : Slot) (lines : List IndexLine) (t : HasLines file lines) where
       ap (λ k. first_number blocks k + p.at) line ∙ omega (arith, first, some) in
       both_ok result _ _ _ entered reads (λ f r.
       first_at Backward (After e) (table_position failed place) m
-      (entered_backward blocks lines n m failed place t.indexed before f.1 r (omega (arith, some)))
+      (entered_backward format blocks lines n m failed place t.indexed before f.1 r
+      (omega (arith, some)))
       (prev_of all m e all_rising (subst (λ k. slice_get all k ≡ Some e) number at))))

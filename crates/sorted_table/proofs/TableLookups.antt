@@ -13,9 +13,10 @@ use Rattle.kv_types.specs.{Entry, IsUnseen}
 use Rattle.merge_iter.specs.{EntryPrecedes, spot}
 use Rattle.merge_iter.specs.declared.Direction.TheVariants.{Forward}
 use Rattle.table_format.specs.{AreRising, IsBlock}
-use Rattle.table_format.specs.{TableRepresents}
+use Rattle.table_format.specs.{TableRepresentsIn}
 use Rattle.table_format.specs.{block_entries, block_lines}
 use Rattle.table_format.specs.{end_spot, entries_of_blocks}
+use Rattle.byte_fields.specs.declared.format.Format.{Format}
 use Rattle.table_format.specs.declared.IndexLine.{IndexLine}
 use Rattle.table_format.specs.declared.FileError.{FileError}
 use Rattle.table_format.specs.declared.FileError.TheVariants.{Disk, Memory}
@@ -29,44 +30,51 @@ use Rattle.sorted_table.proofs.LookupsLemmas.{lookup_up, unseen_all}
 use Rattle.sorted_table.proofs.TailsLemmas.{lines_rise}
 
 -- lines in memory that are those of a table rise
-rising_here : (bytes : List ℕ) (entries : List Entry) (s : TableRepresents bytes entries)
-    (lines : List IndexLine) → lines ≡ block_lines 0 s.blocks → AreRising (map end_spot lines)
-rising_here bytes entries s lines is =
-    subst (λ (l : List IndexLine). AreRising (map end_spot l)) (sym is) (lines_rise bytes entries s)
+rising_here : (format : Format) (bytes : List ℕ) (entries : List Entry)
+    (s : TableRepresentsIn format bytes entries)
+    (lines : List IndexLine) → lines ≡ block_lines format 0 s.blocks
+    → AreRising (map end_spot lines)
+rising_here format bytes entries s lines is =
+    subst (λ (l : List IndexLine). AreRising (map end_spot l)) (sym is)
+    (lines_rise format bytes entries s)
 
 -- all blocks end before the spot
-pub no_block : (bytes : List ℕ) (entries : List Entry) (s : TableRepresents bytes entries)
-    (lines : List IndexLine) (key : StoredKey) (at : ℕ) → lines ≡ block_lines 0 s.blocks
+pub no_block : (format : Format) (bytes : List ℕ) (entries : List Entry)
+    (s : TableRepresentsIn format bytes entries)
+    (lines : List IndexLine) (key : StoredKey) (at : ℕ) → lines ≡ block_lines format 0 s.blocks
     → (AreRising (map end_spot lines) → All (EndsEarlier (spot key at)) lines)
     → IsUnseen at (Contains entries) key
-no_block bytes entries s lines key at is early =
+no_block format bytes entries s lines key at is early =
     let place = spot key at in
-    let ends = subst (All (EndsEarlier place)) is (early (rising_here bytes entries s lines is)) in
+    let ends = subst (All (EndsEarlier place)) is
+    (early (rising_here format bytes entries s lines is)) in
     let rises = subst (Rises (EntryPrecedes Forward)) s.division
     (rises_from_AllPairs (EntryPrecedes Forward) entries s.rising) in
     unseen_all entries key at (All-among (IsEarlier place) entries (λ z a.
-    early_entries 0 s.blocks key at rises
-    (recursion_from_All (EndsEarlier place) (block_lines 0 s.blocks) ends) z
+    early_entries format 0 s.blocks key at rises
+    (recursion_from_All (EndsEarlier place) (block_lines format 0 s.blocks) ends) z
     (subst (Among z) s.division a)))
 
 -- what a lookup finds in a block of the file it finds in the table
-pub record BlockForSpot (bytes : List ℕ) (entries : List Entry) (key : StoredKey) (at : ℕ)
+pub record BlockForSpot (format : Format) (bytes : List ℕ) (entries : List Entry) (key : StoredKey)
+    (at : ℕ)
     (line : IndexLine) : Type 0 where
   pub mine : List Entry
-  pub is_block : IsBlock (take line.len (drop line.place bytes)) mine
+  pub is_block : IsBlock format (take line.len (drop line.place bytes)) mine
   pub within : line.place + line.len ≤ length bytes
   pub up : (found : Option FoundVersion) → LookupFinds mine key at found
       → LookupFinds entries key at found
 
-pub block_for : (bytes : List ℕ) (entries : List Entry) (s : TableRepresents bytes entries)
+pub block_for : (format : Format) (bytes : List ℕ) (entries : List Entry)
+    (s : TableRepresentsIn format bytes entries)
     (lines : List IndexLine) (key : StoredKey) (at : ℕ) (line : IndexLine)
-    → lines ≡ block_lines 0 s.blocks
+    → lines ≡ block_lines format 0 s.blocks
     → (AreRising (map end_spot lines) → IsFirstWithout (EndsEarlier (spot key at)) lines line)
-    → BlockForSpot bytes entries key at line
-block_for bytes entries s lines key at line is first =
+    → BlockForSpot format bytes entries key at line
+block_for format bytes entries s lines key at line is first =
     let place = spot key at in
-    let f = first (rising_here bytes entries s lines is) in
-    let b = line_block bytes entries s f.before line f.after (sym is ∙ f.split) in
+    let f = first (rising_here format bytes entries s lines is) in
+    let b = line_block format bytes entries s f.before line f.after (sym is ∙ f.split) in
     let mine = block_entries b.block in
     let before = entries_of_blocks b.done in
     let after = entries_of_blocks b.others in
@@ -83,20 +91,22 @@ block_for bytes entries s lines key at line is first =
       within = b.within;
       up = λ found here. subst (λ (l : List Entry). LookupFinds l key at found) (sym b.split)
           (lookup_up before mine after b.block.last key at found
-          (early_entries 0 b.done key at parts.front early) (last_there b.block) late
+          (early_entries format 0 b.done key at parts.front early) (last_there b.block) late
           (rising_parts mine after parts.back).across here);
     }
 
-pub result_up : (bytes : List ℕ) (entries : List Entry) (key : StoredKey) (at : ℕ)
+pub result_up : (format kind : Format) (bytes : List ℕ) (entries : List Entry) (key : StoredKey)
+    (at : ℕ)
     (line : IndexLine)
-    (b : BlockForSpot bytes entries key at line) (part : List ℕ)
-    (result : Result (Option FoundVersion) FileError) → IsBlock part b.mine
+    (b : BlockForSpot format bytes entries key at line) (part : List ℕ)
+    (result : Result (Option FoundVersion) FileError) → IsBlock kind part b.mine
     → MatchResult result
-    (λ found. (mine : List Entry) → IsBlock part mine → LookupFinds mine key at found)
+    (λ found. (mine : List Entry) → IsBlock kind part mine → LookupFinds mine key at found)
     (λ e. e ≡ Memory)
     → MatchResult result (LookupFinds entries key at) (IsEnvironmental Disk Memory)
-result_up bytes entries key at line b part (Ok found) is here = b.up found (here b.mine is)
-result_up bytes entries key at line b part (Err e) is memory = inr memory
+result_up format kind bytes entries key at line b part (Ok found) is here = b.up found
+    (here b.mine is)
+result_up format kind bytes entries key at line b part (Err e) is memory = inr memory
 
 -- a block that was read tells of no failure of the device
 pub not_device : {T : Type 0} (P : T → Type 0) (result : Result T FileError)

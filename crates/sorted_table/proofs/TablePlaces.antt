@@ -13,6 +13,7 @@ use Rattle.kv_types.specs.{Entry}
 use Rattle.byte_fields.specs.{◌>>=◌}
 use Rattle.merge_iter.specs.declared.Direction.TheVariants.{Forward, Backward}
 use Rattle.table_format.specs.{Block, block_entries, block_lines, entries_of_blocks}
+use Rattle.byte_fields.specs.declared.format.Format.{Format}
 use Rattle.table_format.specs.declared.IndexLine.{IndexLine}
 use Rattle.table_files.specs.declared.block.CheckedBlock.{CheckedBlock}
 use Rattle.sorted_table.specs.declared.block_place.BlockPlace.{BlockPlace}
@@ -31,7 +32,8 @@ moved_in blocks old new at m p = record {
   block = p.block;
   present = ap (slice_get blocks) m.line ∙ p.present;
   reads = subst (λ (b : CheckedBlock).
-      ReadsEntries (rc_slice_items b.bytes) (rc_slice_items b.starts) (block_entries p.block))
+      ReadsEntries b.format (rc_slice_items b.bytes) (rc_slice_items b.starts)
+      (block_entries p.block))
       (sym m.block) p.reads;
 }
 
@@ -115,7 +117,8 @@ bind_at o f start is = ap (λ x. x >>= f) is
 pub count_of : (blocks : List Block) (place : BlockPlace) (p : IsPlaceIn blocks place)
     → length (rc_slice_items place.block.starts) ≡ length (block_entries p.block)
 count_of blocks place p =
-    count_read (rc_slice_items place.block.bytes) (rc_slice_items place.block.starts)
+    count_read place.block.format (rc_slice_items place.block.bytes)
+    (rc_slice_items place.block.starts)
     (block_entries p.block) p.reads
 
 -- an entry of the table
@@ -130,11 +133,13 @@ entry_at blocks place p =
     let within = place.within in
     elim (slice_get_cases (rc_slice_items place.block.starts) place.at).1 [
       | inl (start, lt, is, at) ↦
-          let e = entry_of_start (rc_slice_items place.block.bytes)
+          let e = entry_of_start place.block.format (rc_slice_items place.block.bytes)
           (rc_slice_items place.block.starts) (block_entries p.block) p.reads place.at start is in
           record {
             entry = e.0;
-            is = bind_at _ (entry_read (rc_slice_items place.block.bytes)) start is ∙ e.2;
+            is = bind_at _ (entry_read place.block.format (rc_slice_items place.block.bytes)) start
+                is
+                ∙ e.2;
             there = entry_in blocks place.line place.at p.block e.0 p.present e.1;
           }
       | inr (past, is) ↦ absurd (omega (arith, past, within))
@@ -151,32 +156,35 @@ position_at blocks place p =
 -- ---- blocks that were entered
 
 -- the position of a cursor that entered a block
-pub entered_forward : (blocks : List Block) (lines : List IndexLine) (n : ℕ) (failed : Bool)
-    (place : Option BlockPlace) → lines ≡ block_lines 0 blocks → failed ≡ false
+pub entered_forward : (format : Format) (blocks : List Block) (lines : List IndexLine) (n : ℕ)
+    (failed : Bool)
+    (place : Option BlockPlace) → lines ≡ block_lines format 0 blocks → failed ≡ false
     → HasEntered lines n Forward place → IfSome place (IsPlaceIn blocks)
     → table_position failed place
     ≡ entry_position (slice_get (entries_of_blocks blocks) (first_number blocks n))
-entered_forward blocks lines n failed None indexed works past here =
-    let len : length lines ≡ length blocks = ap length indexed ∙ length-block_lines 0 blocks in
+entered_forward format blocks lines n failed None indexed works past here =
+    let len : length lines ≡ length blocks = ap length indexed
+    ∙ length-block_lines format 0 blocks in
     let end = number_at_end blocks n (omega (arith, past, len)) in
     ap (λ f. table_position f None) works
     ∙ sym (ap entry_position (slice_get_past (entries_of_blocks blocks) (first_number blocks n)
     (omega (arith, end))))
-entered_forward blocks lines n failed (Some place) indexed works entered here =
+entered_forward format blocks lines n failed (Some place) indexed works entered here =
     let number : number_of blocks place ≡ first_number blocks n =
     ap (λ k. first_number blocks k + place.at) entered.0
     ∙ ap (λ k. first_number blocks n + k) entered.1 ∙ omega arith in
     position_at blocks place here
     ∙ ap (λ k. entry_position (slice_get (entries_of_blocks blocks) k)) number
 
-pub entered_backward : (blocks : List Block) (lines : List IndexLine) (n m : ℕ) (failed : Bool)
-    (place : Option BlockPlace) → lines ≡ block_lines 0 blocks → n < length lines
+pub entered_backward : (format : Format) (blocks : List Block) (lines : List IndexLine) (n m : ℕ)
+    (failed : Bool)
+    (place : Option BlockPlace) → lines ≡ block_lines format 0 blocks → n < length lines
     → HasEntered lines n Backward place → IfSome place (IsPlaceIn blocks)
     → m + 1 ≡ first_number blocks (n + 1)
     → table_position failed place ≡ entry_position (slice_get (entries_of_blocks blocks) m)
-entered_backward blocks lines n m failed None indexed within past here number =
+entered_backward format blocks lines n m failed None indexed within past here number =
     absurd (omega (arith, within, past))
-entered_backward blocks lines n m failed (Some place) indexed within entered here number =
+entered_backward format blocks lines n m failed (Some place) indexed within entered here number =
     let count = count_of blocks place here in
     let line = entered.0 in
     let at = entered.1 in

@@ -20,6 +20,7 @@ use Rattle.merge_iter.specs.{At, EntryPrecedes, MoveFinds, chain, spot}
 use Rattle.table_format.specs.{AreRising, Block, block_bytes, block_entries, block_line}
 use Rattle.table_format.specs.{block_lines}
 use Rattle.table_format.specs.{data_bytes, end_spot, entries_of_blocks}
+use Rattle.byte_fields.specs.declared.format.Format.{Format}
 use Rattle.table_format.specs.declared.IndexLine.{IndexLine}
 use Rattle.sorted_table.specs.declared.block_place.BlockPlace.{BlockPlace}
 use Rattle.sorted_table.specs.BlockPlaces.{IsMovedTo, place_entry}
@@ -44,13 +45,14 @@ early_lines lines place n within at k d lt =
     let short : k < n = omega (arith, lt, length-take n lines) in
     subst (EndsEarlier place) (sym (get_or-take n lines k d short)) (at.0 k d (omega arith) short)
 
-lines_before : (place : ℕ) (bs : List Block) (n : ℕ)
-    → block_lines place (take n bs) ≡ take n (block_lines place bs)
-lines_before place [] zero = refl
-lines_before place [] (suc n) = refl
-lines_before place (b ∷ bs) zero = refl
-lines_before place (b ∷ bs) (suc n) =
-    ap (λ l. block_line place b ∷ l) (lines_before (place + length (block_bytes b)) bs n)
+lines_before : (format : Format) (place : ℕ) (bs : List Block) (n : ℕ)
+    → block_lines format place (take n bs) ≡ take n (block_lines format place bs)
+lines_before format place [] zero = refl
+lines_before format place [] (suc n) = refl
+lines_before format place (b ∷ bs) zero = refl
+lines_before format place (b ∷ bs) (suc n) =
+    ap (λ l. block_line format place b ∷ l)
+    (lines_before format (place + length (block_bytes format b)) bs n)
 
 -- places before a number, and from it on
 sides : (k n : ℕ) → (k < n) ⊎ ((j : ℕ) × (k ≡ n + j))
@@ -75,19 +77,19 @@ among_of (x ∷ xs) (suc k) e at = inr (among_of xs k e at)
 same_or_less : (n k : ℕ) → n ≤ k → (n ≡ k) ⊎ (n < k)
 same_or_less n k le = grind arith
 
-module _ (file : Slot) (lines : List IndexLine) (t : HasLines file lines) (key : StoredKey)
-    (number : ℕ)
+module _ (format : Format) (file : Slot) (lines : List IndexLine)
+    (t : HasLines format file lines) (key : StoredKey) (number : ℕ)
   where
     abbrev sought : Entry
     sought = spot key number
 
     abbrev one_block : ℕ → Block → Type 0
-    one_block n b = slice_get (blocks file lines t) n ≡ Some b
+    one_block n b = slice_get (blocks format file lines t) n ≡ Some b
 
     rising_lines : AreRising (map end_spot lines)
     rising_lines =
         subst (λ l. AreRising (map end_spot l)) (sym t.indexed)
-        (lines_rise t.bytes t.entries t.represents)
+        (lines_rise format t.bytes t.entries t.represents)
 
     -- the place of a search among the lines as they were lent
     pub line_place_in : (given : List IndexLine) (n : ℕ) → given ≡ lines
@@ -98,62 +100,64 @@ module _ (file : Slot) (lines : List IndexLine) (t : HasLines file lines) (key :
 
     block_rising : (n : ℕ) (b : Block) → one_block n b → AreRising (block_entries b)
     block_rising n b at =
-        (block_in t.bytes t.entries t.represents (take n (blocks file lines t)) b
-        (drop (suc n) (blocks file lines t)) (around (blocks file lines t) n b at)).is_block.rising
+        (block_in format t.bytes t.entries t.represents (take n (blocks format file lines t)) b
+        (drop (suc n) (blocks format file lines t))
+        (around (blocks format file lines t) n b at)).is_block.rising
 
-    pub rising_at : (p : BlockPlace) (there : IsPlaceIn (blocks file lines t) p)
+    pub rising_at : (p : BlockPlace) (there : IsPlaceIn (blocks format file lines t) p)
         → AreRising (block_entries there.block)
     rising_at p there = block_rising p.line there.block there.present
 
     -- the entries before those of a line's block
     early_blocks : (n : ℕ) → n ≤ length lines → IsLinePlace lines sought n → (e : Entry)
-        → Among e (entries_of_blocks (take n (blocks file lines t)))
+        → Among e (entries_of_blocks (take n (blocks format file lines t)))
         → EntryPrecedes Forward e sought
     early_blocks n within at e a =
-        let bs = blocks file lines t in
-        let whole : all file lines t
+        let bs = blocks format file lines t in
+        let whole : all format file lines t
         ≡ entries_of_blocks (take n bs) ++ entries_of_blocks (drop n bs) =
         ap entries_of_blocks (sym (take-append-drop n bs))
         ∙ flat_map-append block_entries (take n bs) (drop n bs) in
         let rises = (rising_parts (entries_of_blocks (take n bs)) (entries_of_blocks (drop n bs))
         (subst (Rises (EntryPrecedes Forward)) whole
-        (rises_from_AllPairs (EntryPrecedes Forward) (all file lines t)
-        (all_rising file lines t)))).front in
-        let same : take n lines ≡ block_lines 0 (take n bs) =
-        ap (take n) t.indexed ∙ sym (lines_before 0 bs n) in
-        early_entries 0 (take n bs) key number rises
-        (recursion_from_All (EndsEarlier sought) (block_lines 0 (take n bs))
+        (rises_from_AllPairs (EntryPrecedes Forward) (all format file lines t)
+        (all_rising format file lines t)))).front in
+        let same : take n lines ≡ block_lines format 0 (take n bs) =
+        ap (take n) t.indexed ∙ sym (lines_before format 0 bs n) in
+        early_entries format 0 (take n bs) key number rises
+        (recursion_from_All (EndsEarlier sought) (block_lines format 0 (take n bs))
         (subst (All (EndsEarlier sought)) same (early_lines lines sought n within at))) e a
 
     -- ends of all lines before the place
     pub all_early : (n : ℕ) → length lines ≤ n → n ≤ length lines → IsLinePlace lines sought n
-        → SplitsEntries (all file lines t) sought (length (all file lines t))
+        → SplitsEntries (all format file lines t) sought (length (all format file lines t))
     all_early n past within at = record {
       within = omega arith;
       before = λ k e lt here.
-          let len = all_lines file lines t in
-          let same : take n (blocks file lines t) ≡ blocks file lines t =
-          take_all n (blocks file lines t) (omega (arith, past, len)) in
+          let len = all_lines format file lines t in
+          let same : take n (blocks format file lines t) ≡ blocks format file lines t =
+          take_all n (blocks format file lines t) (omega (arith, past, len)) in
           early_blocks n within at e (subst (λ bs. Among e (entries_of_blocks bs)) (sym same)
-          (among_of (all file lines t) k e here));
+          (among_of (all format file lines t) k e here));
       behind = λ k e le here precedes.
-          let short = slice_get_within (all file lines t) k e here in
+          let short = slice_get_within (all format file lines t) k e here in
           absurd (omega (arith, le, short));
     }
 
     pub splits_all : (n i : ℕ) (b : Block) → one_block n b → n ≤ length lines
         → IsLinePlace lines sought n → SplitsEntries (block_entries b) sought i
         → i < length (block_entries b)
-        → SplitsEntries (all file lines t) sought (first_number (blocks file lines t) n + i)
+        → SplitsEntries (all format file lines t) sought
+        (first_number (blocks format file lines t) n + i)
     splits_all n i b here within at s few =
-        let bs = blocks file lines t in
+        let bs = blocks format file lines t in
         let first = first_number bs n in
         let x = some_of (block_entries b) i few in
-        let x_at : slice_get (all file lines t) (first + i) ≡ Some x.0 =
+        let x_at : slice_get (all format file lines t) (first + i) ≡ Some x.0 =
         entry_in bs n i b x.0 here x.1 in
         let late : EntryPrecedes Forward x.0 sought → ⊥ = s.behind i x.0 (omega arith) x.1 in
         record {
-          within = let short = slice_get_within (all file lines t) (first + i) x.0 x_at in
+          within = let short = slice_get_within (all format file lines t) (first + i) x.0 x_at in
               omega (arith, short);
           before = λ k e lt e_at. elim (sides k first) [
             | inl ahead ↦ early_blocks n within at e
@@ -162,18 +166,21 @@ module _ (file : Slot) (lines : List IndexLine) (t : HasLines file lines) (key :
             | inr (j, is) ↦
                 let less : j < i = omega (arith, is, lt) in
                 let y = some_of (block_entries b) j (omega (arith, less, few)) in
-                let y_at : slice_get (all file lines t) (first + j) ≡ Some y.0 =
+                let y_at : slice_get (all format file lines t) (first + j) ≡ Some y.0 =
                 entry_in bs n j b y.0 here y.1 in
                 let same : y.0 ≡ e =
-                some_is y.0 e (sym y_at ∙ (ap (slice_get (all file lines t)) (sym is) ∙ e_at)) in
+                some_is y.0 e (sym y_at ∙
+                (ap (slice_get (all format file lines t)) (sym is) ∙ e_at)) in
                 subst (λ z. EntryPrecedes Forward z sought) same (s.before j y.0 less y.1)
           ];
           behind = λ k e le e_at precedes. elim (same_or_less (first + i) k le) [
             | inl same ↦ late (subst (λ z. EntryPrecedes Forward z sought)
-                (some_is e x.0 (sym e_at ∙ (ap (slice_get (all file lines t)) (sym same) ∙ x_at)))
+                (some_is e x.0 (sym e_at ∙
+                (ap (slice_get (all format file lines t)) (sym same) ∙ x_at)))
                 precedes)
             | inr less ↦ late (chain Forward x.0 e sought
-                (in_order (all file lines t) (first + i) k x.0 e (all_rising file lines t) less x_at
+                (in_order (all format file lines t) (first + i) k x.0 e
+                (all_rising format file lines t) less x_at
                 e_at) precedes)
           ];
         }
@@ -182,26 +189,26 @@ module _ (file : Slot) (lines : List IndexLine) (t : HasLines file lines) (key :
     ends_late : (n : ℕ) (b : Block) → one_block n b → IsLinePlace lines sought n
         → SplitsEntries (block_entries b) sought (length (block_entries b)) → ⊥
     ends_late n b here at s =
-        let bs = blocks file lines t in
+        let bs = blocks format file lines t in
         let last : slice_get (block_entries b) (length b.front + 0) ≡ Some b.last =
         get_behind b.front (b.last ∷ []) 0 in
         let early : EntryPrecedes Forward b.last sought =
         s.before (length b.front + 0) b.last
         (omega (arith, length-append b.front (b.last ∷ []))) last in
-        let line = block_line (0 + length (data_bytes (take n bs))) b in
+        let line = block_line format (0 + length (data_bytes format (take n bs))) b in
         let line_at : slice_get lines n ≡ Some line =
-        ap (λ l. slice_get l n) t.indexed ∙ line_of 0 bs n b here in
+        ap (λ l. slice_get l n) t.indexed ∙ line_of format 0 bs n b here in
         let same : get_or lines n line ≡ line = get_or_from_slice_get lines n line line line_at in
         at.1 n line (omega arith) (slice_get_within lines n line line_at)
         (subst (EndsEarlier sought) (sym same) early)
 
     pub finds_sought : (n : ℕ) (p q : BlockPlace) → n ≤ length lines → IsLinePlace lines sought n
-        → (there : IsPlaceIn (blocks file lines t) p) → p.line ≡ n → IsMovedTo q.at p q
+        → (there : IsPlaceIn (blocks format file lines t) p) → p.line ≡ n → IsMovedTo q.at p q
         → SplitsEntries (block_entries there.block) sought q.at
         → MoveFinds {R = Unit {0}} Forward (At sought) (FileHolds file) (Ok tt)
         (entry_position (place_entry q))
     finds_sought n p q within at there line m s =
-        let bs = blocks file lines t in
+        let bs = blocks format file lines t in
         let q_in = moved_in bs p q q.at m there in
         let inside = q.within in
         let count = count_of bs p there in
@@ -210,18 +217,20 @@ module _ (file : Slot) (lines : List IndexLine) (t : HasLines file lines) (key :
         let here : one_block n there.block = ap (slice_get bs) (sym line) ∙ there.present in
         let same : number_of bs q ≡ first_number bs n + q.at =
         ap (λ k. first_number bs k + q.at) (m.line ∙ line) in
-        first_at file lines t Forward (At sought) (entry_position (place_entry q))
+        first_at format file lines t Forward (At sought) (entry_position (place_entry q))
         (first_number bs n + q.at)
-        (position_at bs q q_in ∙ ap (λ k. entry_position (slice_get (all file lines t) k)) same)
-        (sought_of (all file lines t) sought (first_number bs n + q.at) (all_rising file lines t)
+        (position_at bs q q_in ∙ ap (λ k. entry_position (slice_get (all format file lines t) k))
+        same)
+        (sought_of (all format file lines t) sought (first_number bs n + q.at)
+        (all_rising format file lines t)
         (splits_all n q.at there.block here within at s few))
 
     -- the block of the line has an entry that does not come before the place
     pub never_late : (n : ℕ) (p : BlockPlace) → IsLinePlace lines sought n
-        → (there : IsPlaceIn (blocks file lines t) p) → p.line ≡ n
+        → (there : IsPlaceIn (blocks format file lines t) p) → p.line ≡ n
         → SplitsEntries (block_entries there.block) sought (length (block_entries there.block)) → ⊥
     never_late n p at there line s =
-        ends_late n there.block (ap (slice_get (blocks file lines t)) (sym line)
+        ends_late n there.block (ap (slice_get (blocks format file lines t)) (sym line)
         ∙ there.present) at s
 
     pub finds_none_sought : (n : ℕ) (failed : Bool) (place : Option BlockPlace) → n ≤ length lines
@@ -229,9 +238,9 @@ module _ (file : Slot) (lines : List IndexLine) (t : HasLines file lines) (key :
         → MoveFinds {R = Unit {0}} Forward (At sought) (FileHolds file) (Ok tt)
         (table_position failed place)
     finds_none_sought n failed place within at past works off =
-        let end = length (all file lines t) in
-        first_at file lines t Forward (At sought) (table_position failed place) end
+        let end = length (all format file lines t) in
+        first_at format file lines t Forward (At sought) (table_position failed place) end
         (ap (table_position failed) off ∙ ap (λ f. table_position f None) works
-        ∙ sym (ap entry_position (slice_get_past (all file lines t) end (omega arith))))
-        (sought_of (all file lines t) sought end (all_rising file lines t)
+        ∙ sym (ap entry_position (slice_get_past (all format file lines t) end (omega arith))))
+        (sought_of (all format file lines t) sought end (all_rising format file lines t)
         (all_early n past within at))

@@ -12,12 +12,13 @@ use Rattle.table_files.specs.{ReadsEntries, entry_read}
 abbrev pub place_entry : BlockPlace → Option Entry
 place_entry place =
     slice_get (rc_slice_items place.block.starts) place.at >>= λ start.
-    entry_read (rc_slice_items place.block.bytes) start
+    entry_read place.block.format (rc_slice_items place.block.bytes) start
 
 -- these are the entries of the place's block
 abbrev pub PlaceReads : BlockPlace → List Entry → Type 0
 PlaceReads place entries =
-    ReadsEntries (rc_slice_items place.block.bytes) (rc_slice_items place.block.starts) entries
+    ReadsEntries place.block.format (rc_slice_items place.block.bytes)
+    (rc_slice_items place.block.starts) entries
 
 -- the second place is one of the same block, the one at this number
 pub record IsMovedTo (at : ℕ) (old new : BlockPlace) : Type 0 where

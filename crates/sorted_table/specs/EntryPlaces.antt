@@ -4,6 +4,8 @@ use Rattle.std.specs.Option.{ForSome, option_map}
 use Rattle.byte_fields.specs.{stored_key}
 use Rattle.kv_types.specs.{Entry}
 use Rattle.table_files.specs.{entry_read}
+use Rattle.byte_fields.specs.declared.format.Format.{Format}
+use Rattle.byte_fields.specs.declared.format.Format.TheVariants.{One, Two}
 use Rattle.sorted_table.specs.declared.entry_place.EntryPlace.{EntryPlace}
 use Rattle.sorted_table.specs.declared.entry_place.ByteSpan.{ByteSpan}
 
@@ -27,7 +29,13 @@ IsSpanIn bytes span = (span.start ≤ span.end) × (span.end ≤ length bytes)
 abbrev pub IsPlacedIn : List ℕ → EntryPlace → Type 0
 IsPlacedIn bytes place = IsSpanIn bytes place.key × ForSome place.value (IsSpanIn bytes)
 
--- the entry that is read from the start on has its key and its value at these places
-pub record IsEntryFrom (bytes : List ℕ) (start : ℕ) (place : EntryPlace) : Type 0 where
-  pub read : entry_read bytes start ≡ Some (entry_in bytes place)
+-- how many bytes of an entry stand in front of those of its key
+abbrev pub key_front : Format → ℕ
+key_front One = 2
+key_front Two = 3
+
+-- the entry that is read in the format from the start on has its key and its value at these places
+pub record IsEntryFrom (format : Format) (bytes : List ℕ) (start : ℕ) (place : EntryPlace)
+    : Type 0 where
+  pub read : entry_read format bytes start ≡ Some (entry_in bytes place)
   pub within : IsPlacedIn bytes place

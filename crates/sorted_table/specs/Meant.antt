@@ -9,6 +9,7 @@ use Rattle.merge_iter.specs.{EntryPrecedes}
 use Rattle.table_files.specs.{IsPartAt}
 use Rattle.table_files.specs.declared.block.CheckedBlock.{CheckedBlock}
 use Rattle.table_format.specs.{IsBlock, end_spot, last_entry}
+use Rattle.byte_fields.specs.declared.format.Format.{Format}
 use Rattle.table_format.specs.declared.IndexLine.{IndexLine}
 use Rattle.table_format.specs.declared.FileError.{FileError}
 use Rattle.table_format.specs.declared.FileError.TheVariants.{Damaged}
@@ -33,37 +34,40 @@ pub record AreAtLine (lines : List IndexLine) (n : ℕ) (line : IndexLine) (entr
   pub last : IfSome (last_entry entries) (HasEndOf line)
   pub first : IfSome (slice_get entries 0) (IsBehindLine lines n)
 
--- the bytes are a block of some entries, which lie where line n says
-abbrev pub IsPlacedBlock : List IndexLine → ℕ → IndexLine → List ℕ → Type 0
-IsPlacedBlock lines n line part =
-    (entries : List Entry) × IsBlock part entries × AreAtLine lines n line entries
+-- the bytes are a block of some entries in the format, which lie where line n says
+abbrev pub IsPlacedBlock : Format → List IndexLine → ℕ → IndexLine → List ℕ → Type 0
+IsPlacedBlock format lines n line part =
+    (entries : List Entry) × IsBlock format part entries × AreAtLine lines n line entries
 
 -- The file has this part at the place of line n, and it is a block of entries that lie where the
 -- line says. What a file has there else is a damaged block.
-pub record IsBlockAtLine (lines : List IndexLine) (n : ℕ) (file : Slot) (part : List ℕ)
-    : Type 0 where
+pub record IsBlockAtLine (format : Format) (lines : List IndexLine) (n : ℕ) (file : Slot)
+    (part : List ℕ) : Type 0 where
   pub line : IndexLine
   pub at : slice_get lines n ≡ Some line
   pub len : length part ≡ line.len
   pub there : IsPartAt (seen file) line.place part
-  pub checked : ∥ IsPlacedBlock lines n line part ∥₁
+  pub checked : ∥ IsPlacedBlock format lines n line part ∥₁
 
 -- The answers of a search for the block of line n: the block that the file has for it, and
 -- `Damaged` only where it has none.
-abbrev pub LineBlockAnswer : List IndexLine → ℕ → Slot → Result CheckedBlock FileError
-    → Type 0
-LineBlockAnswer lines n file (Ok block) = IsBlockAtLine lines n file (rc_slice_items block.bytes)
-LineBlockAnswer lines n file (Err e) =
-    e ≡ Damaged → (part : List ℕ) → IsBlockAtLine lines n file part → ⊥
+abbrev pub LineBlockAnswer : Format → List IndexLine → ℕ → Slot
+    → Result CheckedBlock FileError → Type 0
+LineBlockAnswer format lines n file (Ok block) =
+    IsBlockAtLine format lines n file (rc_slice_items block.bytes)
+LineBlockAnswer format lines n file (Err e) =
+    e ≡ Damaged → (part : List ℕ) → IsBlockAtLine format lines n file part → ⊥
 
 -- ---- files that are as they were meant
 
 -- A block that the file has for one of these lines is the one that it was meant to have there. The
 -- other blocks may be damaged.
-abbrev pub AreAsMeant : Slot → Slot → List IndexLine → Type 0
-AreAsMeant file meant lines =
-    (n : ℕ) (part : List ℕ) → IsBlockAtLine lines n file part → IsBlockAtLine lines n meant part
+abbrev pub AreAsMeant : Format → Slot → Slot → List IndexLine → Type 0
+AreAsMeant format file meant lines =
+    (n : ℕ) (part : List ℕ) → IsBlockAtLine format lines n file part
+    → IsBlockAtLine format lines n meant part
 
 -- a file is as it was meant where it was meant to be as it is
-pub as_meant_itself : (file : Slot) (lines : List IndexLine) → AreAsMeant file file lines
-as_meant_itself file lines n part is = is
+pub as_meant_itself : (format : Format) (file : Slot) (lines : List IndexLine)
+    → AreAsMeant format file file lines
+as_meant_itself format file lines n part is = is

@@ -10,7 +10,9 @@ use Rattle.byte_fields.specs.{StoredKey}
 use Rattle.kv_types.specs.{Entry, IsNewest, IsUnseen}
 use Rattle.merge_iter.specs.{spot}
 use Rattle.table_builder.specs.{HoldsTable}
-use Rattle.table_format.specs.{IsBlock, TableRepresents, block_lines, last_entry}
+use Rattle.table_format.specs.{IsBlock, TableRepresents, TableRepresentsIn, block_lines}
+use Rattle.table_format.specs.{filter_key, last_entry}
+use Rattle.byte_fields.specs.declared.format.Format.{Format}
 use Rattle.table_format.specs.declared.IndexLine.{IndexLine}
 use Rattle.table_format.specs.declared.FileError.{FileError}
 use Rattle.table_format.specs.declared.FileError.TheVariants.{Damaged}
@@ -25,6 +27,10 @@ use Rattle.sorted_table.specs.declared.table.Table.{Table}
 -- the file that the table is open on
 abbrev pub table_file : Table → ℕ
 table_file table = table.file
+
+-- the format of the table
+abbrev pub table_format : Table → Format
+table_format table = table.format
 
 -- the filter that the table keeps
 abbrev pub table_filter : Table → List ℕ
@@ -44,30 +50,33 @@ last_line_key (line ∷ next ∷ lines) = last_line_key (next ∷ lines)
 abbrev pub FileRepresents : Slot → List Entry → Type 0
 FileRepresents file entries = IsSomeAnd (seen file) (λ bytes. TableRepresents bytes entries)
 
--- The table serves these entries: its file represents them, and it keeps the lines of the file's
--- index and the file's filter.
+-- The table serves these entries: its file represents them in the table's format, and it keeps the
+-- lines of the file's index and the file's filter.
 pub record TableServes (file : Slot) (table : Table) (entries : List Entry) : Type 0 where
   pub bytes : List ℕ
   pub present : seen file ≡ Some bytes
-  pub represents : TableRepresents bytes entries
-  pub lines : index_lines table ≡ block_lines 0 represents.blocks
+  pub represents : TableRepresentsIn (table_format table) bytes entries
+  pub lines : index_lines table ≡ block_lines (table_format table) 0 represents.blocks
   pub filter : table.filter.items ≡ represents.filter
 
--- the table is open on this file: the bytes end in the table's filter and its lines
+-- the table is open on this file: the bytes end in the table's filter and its lines, in its format
 abbrev pub IsOpenOn : Slot → Table → Type 0
 IsOpenOn file table =
-    IsSomeAnd (seen file) (λ bytes. HasTail bytes (index_lines table) (table_filter table))
+    IsSomeAnd (seen file)
+    (λ bytes. HasTail (table_format table) bytes (index_lines table) (table_filter table))
 
--- the table keeps the lines of each tail that the file has
+-- the table has the format and keeps the lines of each tail that the file has
 abbrev pub HasItsLines : Slot → Table → Type 0
 HasItsLines file table =
-    (lines : List IndexLine) (filter : List ℕ)
-    → IsSomeAnd (seen file) (λ bytes. HasTail bytes lines filter) → lines ≡ index_lines table
+    (format : Format) (lines : List IndexLine) (filter : List ℕ)
+    → IsSomeAnd (seen file) (λ bytes. HasTail format bytes lines filter)
+    → (format ≡ table_format table) × (lines ≡ index_lines table)
 
 -- a table can be open on the file: the bytes end in a tail
 abbrev pub CanBeOpen : Slot → Type 0
 CanBeOpen file = IsSomeAnd (seen file)
-    (λ bytes. (lines : List IndexLine) × (filter : List ℕ) × HasTail bytes lines filter)
+    (λ bytes. (format : Format) × (lines : List IndexLine) × (filter : List ℕ)
+    × HasTail format bytes lines filter)
 
 -- the key of the last of these entries, if there is one
 abbrev pub greatest_key : List Entry → Option StoredKey
@@ -95,35 +104,39 @@ LookupFinds entries key at (Some found) = IsNewest at (Contains entries) (found_
 
 -- ---- lookups in any open table
 
--- the file has a block for line n, and this is found in it
-pub record FindsAtLine (lines : List IndexLine) (n : ℕ) (file : Slot) (key : StoredKey) (at : ℕ)
-    (found : Option FoundVersion) : Type 0 where
+-- the file has a block of the format for line n, and this is found in it
+pub record FindsAtLine (format : Format) (lines : List IndexLine) (n : ℕ) (file : Slot)
+    (key : StoredKey) (at : ℕ) (found : Option FoundVersion) : Type 0 where
   pub part : List ℕ
   pub entries : List Entry
-  pub there : IsBlockAtLine lines n file part
-  pub is_block : IsBlock part entries
+  pub there : IsBlockAtLine format lines n file part
+  pub is_block : IsBlock format part entries
   pub finds : LookupFinds entries key at found
 
 -- The answer by line n: what is found in its block, and `Damaged` only where the file has no block
 -- for it. Without such a line nothing is found.
-abbrev pub LineAnswer : List IndexLine → ℕ → Slot → StoredKey → ℕ
+abbrev pub LineAnswer : Format → List IndexLine → ℕ → Slot → StoredKey → ℕ
     → Result (Option FoundVersion) FileError → Type 0
-LineAnswer lines n file key at (Ok found) =
+LineAnswer format lines n file key at (Ok found) =
     MatchOption (slice_get lines n) (found ≡ None)
-    (λ line. ∥ FindsAtLine lines n file key at found ∥₁)
-LineAnswer lines n file key at (Err e) =
+    (λ line. ∥ FindsAtLine format lines n file key at found ∥₁)
+LineAnswer format lines n file key at (Err e) =
     (n < length lines)
-    × (e ≡ Damaged → (part : List ℕ) → IsBlockAtLine lines n file part → ⊥)
+    × (e ≡ Damaged → (part : List ℕ) → IsBlockAtLine format lines n file part → ⊥)
+
+-- the table's filter covers what its format holds for the key
+abbrev pub HasInFilter : Table → StoredKey → Type 0
+HasInFilter table key = Covers (table_filter table) (filter_key (table_format table) key)
 
 -- The answer by filter and lines: nothing where the filter denies the key, and else the answer by
 -- the first line whose block does not end before key and number.
 abbrev pub LookupAnswer : Slot → Table → StoredKey → ℕ → Result (Option FoundVersion) FileError
     → Type 0
 LookupAnswer file table key at result =
-    ((Covers table.filter.items key → ⊥) × (result ≡ Ok None))
-    ⊎ (Covers table.filter.items key × (n : ℕ)
+    ((HasInFilter table key → ⊥) × (result ≡ Ok None))
+    ⊎ (HasInFilter table key × (n : ℕ)
     × IsLinePlace (index_lines table) (spot key at) n
-    × LineAnswer (index_lines table) n file key at result)
+    × LineAnswer (table_format table) (index_lines table) n file key at result)
 
 -- ---- lookups in damaged files
 
@@ -133,4 +146,5 @@ abbrev pub AnswersAsMeant : Slot → Table → StoredKey → ℕ → Result (Opt
     → Type 0
 AnswersAsMeant file table key at result =
     (meant : Slot) (entries : List Entry) → TableServes meant table entries →
-    AreAsMeant file meant (index_lines table) → IfOk result (LookupFinds entries key at)
+    AreAsMeant (table_format table) file meant (index_lines table) →
+    IfOk result (LookupFinds entries key at)

@@ -11,6 +11,7 @@ use Rattle.kv_types.specs.{Entry}
 use Rattle.byte_fields.specs.{◌>>=◌}
 use Rattle.merge_iter.specs.{AreCursorLaws, IfOn, IsApart, IsTableEntry}
 use Rattle.table_format.specs.{AreRising, TableRepresents}
+use Rattle.byte_fields.specs.declared.format.Format.{Format}
 use Rattle.table_format.specs.declared.IndexLine.{IndexLine}
 use Rattle.table_format.specs.TablesLemmas.{table_is_unique}
 use Rattle.table_files.specs.{KeepsFiles, keeps_files_itself, keeps_files_through}
@@ -41,7 +42,7 @@ one_list file entries others a b = same_of (seen file) entries others a b
 rising_of : (file : Option (List ℕ)) (entries : List Entry)
     → IsSomeAnd file (λ bytes. TableRepresents bytes entries) → AreRising entries
 rising_of None entries a = absurd a
-rising_of (Some bytes) entries a = a.rising
+rising_of (Some bytes) entries a = a.table.rising
 
 -- of one file no two entries have one key and number
 pub files_apart : (file : Slot) → IsApart (FileHolds file)
@@ -58,20 +59,21 @@ read_fits : (entry : Option Entry) → IsSomeAnd entry IsTableEntry
 read_fits (Some entry) is = is
 read_fits None is = absurd is
 
-fits_at : (block : List ℕ) (start : Option ℕ)
-    → ((s : ℕ) → start ≡ Some s → IsSomeAnd (entry_read block s) IsTableEntry)
-    → IfOn (entry_position (start >>= λ s. entry_read block s)) IsTableEntry
-fits_at block (Some s) is = read_fits (entry_read block s) (is s refl)
-fits_at block None is = tt
+fits_at : (format : Format) (block : List ℕ) (start : Option ℕ)
+    → ((s : ℕ) → start ≡ Some s → IsSomeAnd (entry_read format block s) IsTableEntry)
+    → IfOn (entry_position (start >>= λ s. entry_read format block s)) IsTableEntry
+fits_at format block (Some s) is = read_fits (entry_read format block s) (is s refl)
+fits_at format block None is = tt
 
 -- so does the one at a place in a block
 pub table_fits : (has_failed : Bool) (place : Option BlockPlace)
     → IfOn (table_position has_failed place) IsTableEntry
 table_fits has_failed (Some place) =
+    let format = place.block.format in
     let block = rc_slice_items place.block.bytes in
     let starts = rc_slice_items place.block.starts in
-    let P : ℕ → Type 0 = λ start. IsSomeAnd (entry_read block start) IsTableEntry in
-    fits_at block (slice_get starts place.at)
+    let P : ℕ → Type 0 = λ start. IsSomeAnd (entry_read format block start) IsTableEntry in
+    fits_at format block (slice_get starts place.at)
     (λ s here. subst P (get_or_from_slice_get starts place.at s s here)
     (All-get_or P starts place.at s (slice_get_within starts place.at s here) place.block.read))
 table_fits true None = tt
@@ -83,13 +85,13 @@ table_fits false None = tt
 abbrev pub AreIntactFiles : {D : Type 0} → Ghosts D → State → D → Type 0
 AreIntactFiles g meant disk = g.is_honest disk → (file : ℕ) → g.state disk file ≡ meant file
 
-module _ {C S : Type 0} (g : Ghosts S) (file : C → ℕ) (lines : C → List IndexLine)
-    (place : C → Option BlockPlace) where
+module _ {C S : Type 0} (g : Ghosts S) (file : C → ℕ) (format : C → Format)
+    (lines : C → List IndexLine) (place : C → Option BlockPlace) where
   -- the file was meant to be a table that the cursor serves, and its blocks are as meant
   abbrev pub ServesMeant : State → C → S → Type 0
   ServesMeant meant c s =
-      g.is_honest s × CursorServes (meant (file c)) (lines c) (place c)
-      × AreAsMeant (g.state s (file c)) (meant (file c)) (lines c)
+      g.is_honest s × CursorServes (format c) (meant (file c)) (lines c) (place c)
+      × AreAsMeant (format c) (g.state s (file c)) (meant (file c)) (lines c)
 
   -- a disk that has the same file serves the cursor as well
   abbrev pub FileSuits : C → S → S → Type 0
@@ -112,7 +114,8 @@ module _ {C S : Type 0} (g : Ghosts S) (file : C → ℕ) (lines : C → List In
       (
         k.honest.1 s.0,
         s.1,
-        subst (λ slot. AreAsMeant slot (m (file c)) (lines c)) (sym (k.same s.0 (file c))) s.2,
+        subst (λ slot. AreAsMeant (format c) slot (m (file c)) (lines c))
+            (sym (k.same s.0 (file c))) s.2,
       ),
       λ entry. ((λ h. h), (λ h. h)),
       λ v w z. z,
@@ -122,7 +125,7 @@ module _ {C S : Type 0} (g : Ghosts S) (file : C → ℕ) (lines : C → List In
           (
             it.0,
             s.1,
-            subst (λ slot. AreAsMeant slot (m (file c)) (lines c)) (sym it.1) s.2,
+            subst (λ slot. AreAsMeant (format c) slot (m (file c)) (lines c)) (sym it.1) s.2,
           ),
           λ entry. ((λ h. h), (λ h. h)),
           λ v w z. z,

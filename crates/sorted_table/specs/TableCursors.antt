@@ -7,7 +7,8 @@ use Rattle.merge_iter.specs.{Position, On, Off, Broken}
 use Rattle.merge_iter.specs.declared.Direction.{Direction}
 use Rattle.merge_iter.specs.declared.CursorError.{CursorError}
 use Rattle.merge_iter.specs.declared.CursorError.TheVariants as cursor
-use Rattle.table_format.specs.{Block, TableRepresents, block_entries, block_lines}
+use Rattle.table_format.specs.{Block, TableRepresentsIn, block_entries, block_lines}
+use Rattle.byte_fields.specs.declared.format.Format.{Format}
 use Rattle.table_format.specs.declared.IndexLine.{IndexLine}
 use Rattle.table_format.specs.declared.FileError.{FileError}
 use Rattle.table_format.specs.declared.FileError.TheVariants as reading
@@ -34,13 +35,13 @@ table_position false None = Off
 abbrev pub FileHolds : Slot → Entry → Type 0
 FileHolds file entry = (entries : List Entry) × FileRepresents file entries × Contains entries entry
 
--- the file represents a table whose index has these lines
-pub record HasLines (file : Slot) (lines : List IndexLine) : Type 0 where
+-- the file represents a table in the format whose index has these lines
+pub record HasLines (format : Format) (file : Slot) (lines : List IndexLine) : Type 0 where
   pub bytes : List ℕ
   pub present : seen file ≡ Some bytes
   pub entries : List Entry
-  pub represents : TableRepresents bytes entries
-  pub indexed : lines ≡ block_lines 0 represents.blocks
+  pub represents : TableRepresentsIn format bytes entries
+  pub indexed : lines ≡ block_lines format 0 represents.blocks
 
 -- the place is in one of these blocks, the one of its line
 pub record IsPlaceIn (blocks : List Block) (place : BlockPlace) : Type 0 where
@@ -48,10 +49,10 @@ pub record IsPlaceIn (blocks : List Block) (place : BlockPlace) : Type 0 where
   pub present : slice_get blocks place.line ≡ Some block
   pub reads : PlaceReads place (block_entries block)
 
--- the file represents a table with these lines, and the place is in one of its blocks
-pub record CursorServes (file : Slot) (lines : List IndexLine) (place : Option BlockPlace)
-    : Type 0 where
-  pub table : HasLines file lines
+-- the file represents a table in the format with these lines, and the place is in one of its blocks
+pub record CursorServes (format : Format) (file : Slot) (lines : List IndexLine)
+    (place : Option BlockPlace) : Type 0 where
+  pub table : HasLines format file lines
   pub here : IfSome place (IsPlaceIn table.represents.blocks)
 
 -- ---- entering a block

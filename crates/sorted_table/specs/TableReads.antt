@@ -12,6 +12,7 @@ use Rattle.table_files.specs.{KeepsFiles}
 use Rattle.table_format.specs.declared.FileError.TheVariants as reading
 use Rattle.table_format.specs.declared.IndexLine.{IndexLine}
 use Rattle.table_format.specs.declared.FileError.{FileError}
+use Rattle.byte_fields.specs.declared.format.Format.{Format}
 use Rattle.sorted_table.specs.MovedFiles.{MovesFiles}
 use Rattle.sorted_table.specs.Open.{AnswersAsMeant, IsOpenOn, LookupAnswer, LookupFinds}
 use Rattle.sorted_table.specs.Open.{TableServes, table_file}
@@ -48,11 +49,11 @@ module _ {D : Type 0} (g : Ghosts D) where
     pub still : IsStill g before now
 
   -- a cursor over a file with these lines was moved to a block, or stands on none after a refusal
-  pub record EntersBlock (file : ℕ) (lines : List IndexLine) (before now : D)
+  pub record EntersBlock (file : ℕ) (format : Format) (lines : List IndexLine) (before now : D)
       (place : Option BlockPlace) (has_failed : Bool) (result : Result (Unit {0}) CursorError)
       : Type 0 where
     pub keeps : KeepsFiles g before now
     pub device : MovesFiles g (reports result) before now
-    pub causes : ErrorCauses (g.is_honest before × HasLines (g.state before file) lines) ⊥
-        (Unit {0}) (g.failures before) (g.failures now) result
+    pub causes : ErrorCauses (g.is_honest before × HasLines format (g.state before file) lines)
+        ⊥ (Unit {0}) (g.failures before) (g.failures now) result
     pub refused : OnErr result ((place ≡ None) × (has_failed ≡ true))

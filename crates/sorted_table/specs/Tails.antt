@@ -3,6 +3,7 @@ use Rattle.std.specs.Prelude.{◌≡◌, ℕ, ◌+◌, ◌≤◌, List, ◌++◌
 use Rattle.table_format.specs.{Block, IsFilterPart, IsFooter, IsIndex, block_lines, data_bytes}
 use Rattle.table_format.specs.{filter_part, footer_part, index_part}
 use Rattle.table_format.specs.declared.Footer.{Footer}
+use Rattle.byte_fields.specs.declared.format.Format.{Format}
 use Rattle.table_format.specs.declared.IndexLine.{IndexLine}
 use Rattle.sorted_table.specs.declared.tail.Tail.{Tail}
 
@@ -15,30 +16,36 @@ pub record SaysPlaces (footer : Footer) (front middle last : List ℕ) : Type 0 
   pub index : footer.index ≡ length front + length middle
   pub index_len : footer.index_len ≡ length last
 
--- The bytes end in this filter, the index of these lines, and a footer that says where both stand.
--- The blocks of the lines fill the bytes before.
-pub record HasTail (bytes : List ℕ) (lines : List IndexLine) (filter : List ℕ) : Type 0 where
+-- The bytes end in this filter, the index of these lines in the format, and a footer of the format
+-- that says where both stand. The blocks of the lines fill the bytes before.
+pub record HasTail (format : Format) (bytes : List ℕ) (lines : List IndexLine)
+    (filter : List ℕ) : Type 0 where
   pub front : List ℕ
   pub footer : Footer
-  pub spelled : bytes ≡ front ++ (filter_part filter ++ (index_part lines ++ footer_part footer))
+  pub spelled : bytes
+      ≡ front ++ (filter_part filter ++ (index_part format lines ++ footer_part footer))
   pub is_filter : IsFilterPart (filter_part filter) filter
-  pub is_index : IsIndex (index_part lines) (length front) lines
+  pub is_index : IsIndex format (index_part format lines) (length front) lines
   pub is_footer : IsFooter (footer_part footer) footer
-  pub places : SaysPlaces footer front (filter_part filter) (index_part lines)
+  pub places : SaysPlaces footer front (filter_part filter) (index_part format lines)
+  pub read_in : footer.format ≡ format
 
 -- ---- the tail as it is read
 
 -- the bytes of the tail
-abbrev pub tail_bytes : List Block → List ℕ → List ℕ
-tail_bytes blocks filter = filter_part filter ++ index_part (block_lines 0 blocks)
+abbrev pub tail_bytes : Format → List Block → List ℕ → List ℕ
+tail_bytes format blocks filter =
+    filter_part filter ++ index_part format (block_lines format 0 blocks)
 
--- the place and the lengths of the tail
-pub record IsTail (blocks : List Block) (filter : List ℕ) (tail : Tail) : Type 0 where
-  pub place : tail.place ≡ length (data_bytes blocks)
+-- the place, the lengths and the format of the tail
+pub record IsTail (format : Format) (blocks : List Block) (filter : List ℕ) (tail : Tail)
+    : Type 0 where
+  pub place : tail.place ≡ length (data_bytes format blocks)
   pub filter_len : tail.filter_len ≡ length (filter_part filter)
-  pub len : tail.len ≡ length (tail_bytes blocks filter)
+  pub len : tail.len ≡ length (tail_bytes format blocks filter)
+  pub read_in : tail.format ≡ format
 
--- the part is a footer by which this tail stands directly before it
+-- the part is a footer by which this tail, of its format, stands directly before it
 pub record FooterSays (part : List ℕ) (end : ℕ) (tail : Tail) : Type 0 where
   pub footer : Footer
   pub is_footer : IsFooter part footer
@@ -48,6 +55,7 @@ pub record FooterSays (part : List ℕ) (end : ℕ) (tail : Tail) : Type 0 where
   pub index_len : footer.index + footer.index_len ≡ end
   pub ends : tail.place + tail.len ≡ end
   pub within : tail.filter_len ≤ tail.len
+  pub read_in : footer.format ≡ tail.format
 
 -- the bytes have this tail by their last 52, and this is its content
 pub record ReadsTail (part : List ℕ) (tail : Tail) (bytes : List ℕ) : Type 0 where

@@ -21,15 +21,16 @@ pub fn find_in(
     at: u64,
 ) -> Result<Option<FoundVersion>, FileError>
     ensures { MatchResult result
-        (λ found. (entries : List Entry) → IsBlock (rc_slice_items block.now.bytes) entries →
+        (λ found. (entries : List Entry) →
+        IsBlock block.now.format (rc_slice_items block.now.bytes) entries →
         LookupFinds entries (lent_key key.entry) at found)
         (λ e. e ≡ FileError.Memory) }
 {
-    let earlier = count_before(&block.bytes, &block.starts, key, at);
+    let earlier = count_before(block.format, &block.bytes, &block.starts, key, at);
     let Some(start) = block.starts.get(earlier) else {
         return Ok(None);
     };
-    let Some(entry) = entry_from(&block.bytes, *start) else {
+    let Some(entry) = entry_from(block.format, &block.bytes, *start) else {
         unreachable!();
     };
     if !entry.key.is_same(key) {

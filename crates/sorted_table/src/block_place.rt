@@ -26,17 +26,17 @@ pub struct BlockPlace {
     at: usize,
     entry: EntryPlace,
     ghost within: { at < length (rc_slice_items block.starts) },
-    ghost stands: { IsEntryFrom (rc_slice_items block.bytes)
+    ghost stands: { IsEntryFrom block.format (rc_slice_items block.bytes)
         (slice_index (rc_slice_items block.starts) at) entry } by { Prim.hlevel props },
 }
 
 // Where the entry of this number stands in a block.
 fn entry_at(block: &CheckedBlock, at: usize) -> EntryPlace
     requires { at < length (rc_slice_items block.now.starts) }
-    ensures { IsEntryFrom (rc_slice_items block.now.bytes)
+    ensures { IsEntryFrom block.now.format (rc_slice_items block.now.bytes)
         (slice_index (rc_slice_items block.now.starts) at) result }
 {
-    match EntryPlace::read(&block.bytes, block.starts[at]) {
+    match EntryPlace::read(block.format, &block.bytes, block.starts[at]) {
         Some(entry) => entry,
         None => unreachable!(),
     }
@@ -50,7 +50,8 @@ impl BlockPlace {
         ensures first { IfSome result (λ place. (place.line ≡ line) × (place.at ≡ 0)) }
         ensures few { IfSome result (λ place.
             length (rc_slice_items place.block.starts) ≤ length (rc_slice_items block.bytes)) }
-        ensures entries { (entries : List Entry) → IsBlock (rc_slice_items block.bytes) entries →
+        ensures entries { (entries : List Entry) →
+            IsBlock block.format (rc_slice_items block.bytes) entries →
             IsSomeAnd result (λ place. PlaceReads place entries) }
     {
         if block.starts.is_empty() {
@@ -142,7 +143,7 @@ impl BlockPlace {
             SplitsEntries entries (spot (lent_key key.entry) number) self.new.at }
     {
         let block = &self.block;
-        let at = count_before(&block.bytes, &block.starts, key, number);
+        let at = count_before(block.format, &block.bytes, &block.starts, key, number);
         let at = at.min(block.starts.len() - 1);
         self.move_to(at);
     }

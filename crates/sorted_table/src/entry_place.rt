@@ -1,14 +1,22 @@
 //! Where an entry stands in the bytes of its block.
-ghost use Rattle.std.specs.Prelude.{◌≡◌, None, MatchOption};
+ghost use Rattle.std.specs.Prelude.{◌≡◌, ◌≤◌, None, MatchOption};
 ghost use Rattle.table_files.specs.{entry_read};
 ghost use Rattle.table_format.specs.{lent_entry};
-ghost use Rattle.sorted_table.specs.EntryPlaces.{IsEntryFrom, IsPlacedIn, entry_in};
+ghost use Rattle.sorted_table.specs.EntryPlaces.{IsEntryFrom, IsPlacedIn, entry_in, key_front};
 
-use byte_fields::{LentKey, Space};
+use byte_fields::{Format, LentKey, Space};
 use table_format::{LentEntry, entry_of};
 
-// How many bytes space and length in front of a key have.
-const FRONT_SIZE: usize = 3;
+// How many bytes stand in front of those of a key: its length, and in format 2 its space.
+fn front_size(format: Format) -> usize
+    ensures size { result ≡ key_front format }
+    ensures few { result ≤ 3 }
+{
+    match format {
+        Format::One => 2,
+        Format::Two => 3,
+    }
+}
 
 /// Where some bytes of a block start and end.
 #[derive(Clone, Copy)]
@@ -28,16 +36,17 @@ pub struct EntryPlace {
 }
 
 impl EntryPlace {
-    /// The place of the entry that starts there in the bytes, if there is one.
-    pub fn read(bytes: &[u8], start: usize) -> Option<EntryPlace>
-        ensures { MatchOption result (entry_read bytes.now start ≡ None)
-            (IsEntryFrom bytes.now start) }
+    /// The place of the entry that starts there in the bytes, as a table of the format spells it,
+    /// if there is one.
+    pub fn read(format: Format, bytes: &[u8], start: usize) -> Option<EntryPlace>
+        ensures { MatchOption result (entry_read format bytes.now start ≡ None)
+            (IsEntryFrom format bytes.now start) }
     {
         if start > bytes.len() {
             return None;
         }
-        let (entry, rest) = entry_of(&bytes[start..])?;
-        let key_start = start + FRONT_SIZE;
+        let (entry, rest) = entry_of(format, &bytes[start..])?;
+        let key_start = start + front_size(format);
         let end = bytes.len() - rest.len();
         Some(EntryPlace {
             space: entry.key.space(),

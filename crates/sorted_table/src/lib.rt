@@ -14,7 +14,7 @@ mod table_cursor;
 mod tail;
 
 pub use found::FoundVersion;
-pub use table::Table;
+pub use table::{Table, hashes_in};
 pub use table_builder::{Builder, Finished};
 pub use table_cursor::TableCursor;
 pub use table_files::{CachedDisk, MAX_BLOCKS};

@@ -1,12 +1,13 @@
 //! Open tables.
 ghost use Rattle.std.specs.Prelude.{◌≡◌, ◌↔◌, List, IfOk, IsTrue, MatchResult, Contains};
 ghost use Rattle.std.specs.Prelude.{IsErrOf, option_map};
-ghost use Rattle.bloom.specs.{Covers, CoversHashed, hashes_of};
+ghost use Rattle.bloom.specs.{CoversHashed, hashes_of};
 ghost use Rattle.disk.specs.{IsEnvironmental, IsSame, IsStill, KeepsDisk, Slot, State};
 ghost use Rattle.byte_fields.specs.{lent_key};
 ghost use Rattle.kv_types.specs.{Entry};
 ghost use Rattle.merge_iter.specs.{IsAlike, Off};
 ghost use Rattle.disk.specs.{CallsAtMost};
+ghost use Rattle.table_format.specs.{filter_key};
 ghost use Rattle.table_format.specs.declared.FileError.TheVariants.{Disk, Memory};
 
 use crate::block::find_in;
@@ -17,7 +18,7 @@ use crate::table_cursor::TableCursor;
 use crate::tail::{parts_of, read_tail};
 use bloom::laws::filters_cover;
 use bloom::{KeyHashes, may_hold_hashed};
-use byte_fields::{LentKey, StoredKey};
+use byte_fields::{Format, LentKey, StoredKey};
 use disk::Disk;
 use merge_iter::Cursor;
 use std::alloc::{AllocError, Global};
@@ -25,11 +26,22 @@ use std::rc::RcSlice;
 use table_files::CachedDisk;
 use table_format::{FileError, IndexLine};
 
+/// The hashes of a key in the filters of tables of the format.
+pub fn hashes_in(format: Format, key: LentKey) -> KeyHashes
+    ensures { result ≡ hashes_of (filter_key format (lent_key key.entry)) }
+{
+    match format {
+        Format::One => KeyHashes::of(key.as_bytes()),
+        Format::Two => KeyHashes::of_stored(key),
+    }
+}
+
 /// An open table. It keeps the lines of the index and the filter, and no block. Cursors share the
 /// lines.
 #[derive(Drop)]
 pub struct Table {
     file: u64,
+    format: Format,
     lines: RcSlice<IndexLine>,
     filter: Vec<u8>,
 }
@@ -38,7 +50,8 @@ impl Table {
     ghost use Rattle.sorted_table.specs.Meant.{AreAsMeant};
     ghost use Rattle.sorted_table.specs.Open.{CanBeOpen, FileRepresents, HasItsLines, IsOpenOn};
     ghost use Rattle.sorted_table.specs.Open.{TableServes, greatest_key, index_lines};
-    ghost use Rattle.sorted_table.specs.Open.{last_line_key, table_file, table_filter};
+    ghost use Rattle.sorted_table.specs.Open.{HasInFilter, last_line_key, table_file, table_filter};
+    ghost use Rattle.sorted_table.specs.Open.{table_format};
     ghost use Rattle.sorted_table.specs.TableReads.{AnswersLookup};
 
     /// Opens the table of a file. It needs three device calls, reads no block, and takes no more
@@ -61,9 +74,17 @@ impl Table {
         let (lines, filter) = parts_of(alloc, &bytes, tail)?;
         Ok(Table {
             file,
+            format: tail.format,
             lines,
             filter,
         })
+    }
+
+    /// The format of the table.
+    pub fn format(&self) -> Format
+        ensures { result ≡ table_format self.now }
+    {
+        self.format
     }
 
     /// The key of the last line of the index, which is that of the last entry. `None` only where
@@ -96,12 +117,13 @@ impl Table {
         at: u64,
     ) -> Result<Option<FoundVersion>, FileError>
         ensures { AnswersLookup ⟦<CachedDisk<D> as Disk>⟧ self.now (lent_key key.entry) at
-            (Covers (table_filter self.now) (lent_key key.entry)) files.old files.new result }
+            (HasInFilter self.now (lent_key key.entry)) files.old files.new result }
     {
-        self.get_hashed(alloc, files, key, KeyHashes::of_stored(key), at)
+        self.get_hashed(alloc, files, key, hashes_in(self.format, key), at)
     }
 
-    /// `get` of the key that has these hashes. A lookup in many tables computes them once.
+    /// `get` of the key that has these hashes in the table's format. A lookup in many tables
+    /// computes those of format 2 once.
     pub fn get_hashed<D: Disk + Drop>(
         &self,
         alloc: Global,
@@ -110,7 +132,7 @@ impl Table {
         hashes: KeyHashes,
         at: u64,
     ) -> Result<Option<FoundVersion>, FileError>
-        requires { hashes ≡ hashes_of (lent_key key) }
+        requires { hashes ≡ hashes_of (filter_key (table_format self.now) (lent_key key)) }
         ensures { AnswersLookup ⟦<CachedDisk<D> as Disk>⟧ self.now (lent_key key.entry) at
             (CoversHashed (table_filter self.now) hashes) files.old files.new result }
     {
@@ -123,7 +145,7 @@ impl Table {
         if number >= lines.len() {
             return Ok(None);
         }
-        let block = block_of_line(alloc, files, self.file, lines, number)?;
+        let block = block_of_line(alloc, files, self.file, self.format, lines, number)?;
         find_in(alloc, &block, key, at)
     }
 
@@ -135,7 +157,8 @@ impl Table {
         ensures serves { IfOk result (λ cursor. (meant : State) (files : _) (entries : List Entry) →
             ⟦<CachedDisk<D> as Disk>⟧.is_honest files →
             TableServes (meant (table_file self.now)) self.now entries →
-            AreAsMeant (⟦<CachedDisk<D> as Disk>⟧.state files (table_file self.now))
+            AreAsMeant (table_format self.now)
+            (⟦<CachedDisk<D> as Disk>⟧.state files (table_file self.now))
             (meant (table_file self.now)) (index_lines self.now) →
             ⟦<TableCursor<D> as Cursor>⟧.is_sound meant cursor files
             × IsAlike (⟦<TableCursor<D> as Cursor>⟧.holds meant cursor files) (Contains entries)) }
@@ -145,6 +168,6 @@ impl Table {
             ≡ ⟦<CachedDisk<D> as Disk>⟧.state a (table_file self.now))) →
             ⟦<TableCursor<D> as Cursor>⟧.suits cursor a b) }
     {
-        Ok(TableCursor::new(alloc, self.file, self.lines.clone()?))
+        Ok(TableCursor::new(alloc, self.file, self.format, self.lines.clone()?))
     }
 }

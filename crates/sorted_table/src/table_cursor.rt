@@ -19,7 +19,7 @@ ghost use Rattle.sorted_table.specs.TableReads.{EntersBlock, ReadsDisk};
 use crate::block_place::BlockPlace;
 use crate::line_block::block_of_line;
 use crate::lines::line_place;
-use byte_fields::LentKey;
+use byte_fields::{Format, LentKey};
 use disk::Disk;
 use merge_iter::{Cursor, CursorError, Direction};
 use std::alloc::Global;
@@ -44,6 +44,7 @@ fn first_of<D: Disk + Drop>(
     alloc: Global,
     files: &mut CachedDisk<D>,
     file: u64,
+    format: Format,
     lines: &RcSlice<IndexLine>,
     line: usize,
 ) -> Result<BlockPlace, FileError>
@@ -52,14 +53,15 @@ fn first_of<D: Disk + Drop>(
     ensures first { IfOk result (λ place. (place.line ≡ line) × (place.at ≡ 0)
         × IsBounded (rc_slice_items lines.now) place) }
     ensures reads { (meant : Slot) → ⟦<CachedDisk<D> as Disk>⟧.is_honest files.old →
-        AreAsMeant (⟦<CachedDisk<D> as Disk>⟧.state files.old file) meant
-        (rc_slice_items lines.now) → (table : HasLines meant (rc_slice_items lines.now)) →
+        AreAsMeant format (⟦<CachedDisk<D> as Disk>⟧.state files.old file) meant
+        (rc_slice_items lines.now) → (table : HasLines format meant (rc_slice_items lines.now)) →
         IfOk result (IsPlaceIn table.represents.blocks) }
     ensures damaged { result ≡ Err FileError.Damaged →
         ⟦<CachedDisk<D> as Disk>⟧.is_honest files.old →
-        HasLines (⟦<CachedDisk<D> as Disk>⟧.state files.old file) (rc_slice_items lines.now) → ⊥ }
+        HasLines format (⟦<CachedDisk<D> as Disk>⟧.state files.old file)
+        (rc_slice_items lines.now) → ⊥ }
 {
-    let block = block_of_line(alloc, files, file, lines, line)?;
+    let block = block_of_line(alloc, files, file, format, lines, line)?;
     BlockPlace::new(line, block).ok_or(FileError::Damaged)
 }
 
@@ -69,6 +71,7 @@ fn first_of<D: Disk + Drop>(
 pub struct TableCursor<D> {
     alloc: Global,
     file: u64,
+    format: Format,
     lines: RcSlice<IndexLine>,
     place: Option<BlockPlace>,
     has_failed: bool,
@@ -77,14 +80,20 @@ pub struct TableCursor<D> {
 }
 
 impl<D: Disk + Drop> TableCursor<D> {
-    /// A cursor over the table of a file that has these lines. It stands on none.
-    pub(crate) fn new(alloc: Global, file: u64, lines: RcSlice<IndexLine>) -> TableCursor<D>
-        ensures table { (result.file ≡ file) × (result.lines ≡ lines) }
+    /// A cursor over the table of a file that has this format and these lines. It stands on none.
+    pub(crate) fn new(
+        alloc: Global,
+        file: u64,
+        format: Format,
+        lines: RcSlice<IndexLine>,
+    ) -> TableCursor<D>
+        ensures table { (result.file ≡ file) × (result.lines ≡ lines) × (result.format ≡ format) }
         ensures off { (result.place ≡ None) × (result.has_failed ≡ false) }
     {
         TableCursor {
             alloc,
             file,
+            format,
             lines,
             place: None,
             has_failed: false,
@@ -125,16 +134,17 @@ impl<D: Disk + Drop> TableCursor<D> {
         line: usize,
         way: Direction,
     ) -> Result<(), CursorError>
-        ensures table { (self.new.file ≡ self.old.file) × (self.new.lines ≡ self.old.lines) }
+        ensures table { (self.new.file ≡ self.old.file) × (self.new.lines ≡ self.old.lines)
+            × (self.new.format ≡ self.old.format) }
         ensures moved { EntersBlock ⟦<CachedDisk<D> as Disk>⟧ self.old.file
-            (rc_slice_items self.old.lines) files.old files.new self.new.place self.new.has_failed
-            result }
+            self.old.format (rc_slice_items self.old.lines) files.old files.new self.new.place
+            self.new.has_failed result }
         ensures entered { OnOk result ((self.new.has_failed ≡ false)
             × HasEntered (rc_slice_items self.old.lines) line way self.new.place) }
         ensures reads { (meant : Slot) → ⟦<CachedDisk<D> as Disk>⟧.is_honest files.old →
-            AreAsMeant (⟦<CachedDisk<D> as Disk>⟧.state files.old self.old.file) meant
-            (rc_slice_items self.old.lines) →
-            (table : HasLines meant (rc_slice_items self.old.lines)) →
+            AreAsMeant self.old.format (⟦<CachedDisk<D> as Disk>⟧.state files.old self.old.file)
+            meant (rc_slice_items self.old.lines) →
+            (table : HasLines self.old.format meant (rc_slice_items self.old.lines)) →
             OnOk result (IfSome self.new.place (IsPlaceIn table.represents.blocks)) }
     {
         self.place = None;
@@ -143,7 +153,7 @@ impl<D: Disk + Drop> TableCursor<D> {
             self.has_failed = false;
             return Ok(());
         }
-        match first_of(self.alloc, files, self.file, &self.lines, line) {
+        match first_of(self.alloc, files, self.file, self.format, &self.lines, line) {
             Ok(place) => {
                 self.place = Some(place.at_end(way));
                 self.has_failed = false;
@@ -155,16 +165,17 @@ impl<D: Disk + Drop> TableCursor<D> {
 
     // Enters the block of a line, if there is such a line, unless the cursor stands in it.
     fn reach(&mut self, files: &mut CachedDisk<D>, line: usize) -> Result<(), CursorError>
-        ensures table { (self.new.file ≡ self.old.file) × (self.new.lines ≡ self.old.lines) }
+        ensures table { (self.new.file ≡ self.old.file) × (self.new.lines ≡ self.old.lines)
+            × (self.new.format ≡ self.old.format) }
         ensures moved { EntersBlock ⟦<CachedDisk<D> as Disk>⟧ self.old.file
-            (rc_slice_items self.old.lines) files.old files.new self.new.place self.new.has_failed
-            result }
+            self.old.format (rc_slice_items self.old.lines) files.old files.new self.new.place
+            self.new.has_failed result }
         ensures reached { OnOk result (HasReached (rc_slice_items self.old.lines) line
             self.new.has_failed self.new.place) }
         ensures reads { (meant : Slot) → ⟦<CachedDisk<D> as Disk>⟧.is_honest files.old →
-            AreAsMeant (⟦<CachedDisk<D> as Disk>⟧.state files.old self.old.file) meant
-            (rc_slice_items self.old.lines) →
-            (table : HasLines meant (rc_slice_items self.old.lines)) →
+            AreAsMeant self.old.format (⟦<CachedDisk<D> as Disk>⟧.state files.old self.old.file)
+            meant (rc_slice_items self.old.lines) →
+            (table : HasLines self.old.format meant (rc_slice_items self.old.lines)) →
             IfSome self.old.place (IsPlaceIn table.represents.blocks) →
             OnOk result (IfSome self.new.place (IsPlaceIn table.represents.blocks)) }
     {
@@ -194,11 +205,12 @@ impl<D: Disk + Drop> Cursor for TableCursor<D> {
     ghost holds = { λ meant c files. FileHolds (meant c.file) };
 
     ghost is_sound = { ServesMeant ⟦<CachedDisk<D> as Disk>⟧ (λ c. c.file)
-        (λ c. rc_slice_items c.lines) (λ c. c.place) };
+        (λ c. c.format) (λ c. rc_slice_items c.lines) (λ c. c.place) };
 
     ghost keeps = { KeepsFiles ⟦<CachedDisk<D> as Disk>⟧ };
 
-    ghost suits = { FileSuits ⟦<CachedDisk<D> as Disk>⟧ (λ c. c.file) (λ c. rc_slice_items c.lines)
+    ghost suits = { FileSuits ⟦<CachedDisk<D> as Disk>⟧ (λ c. c.file) (λ c. c.format)
+        (λ c. rc_slice_items c.lines)
         (λ c. c.place) };
 
     ghost makes = { MovesFiles ⟦<CachedDisk<D> as Disk>⟧ };
@@ -294,7 +306,8 @@ impl<D: Disk + Drop> Cursor for TableCursor<D> {
         self.enter(files, line, Direction::Backward)
     }
 
-    ghost laws = { table_laws ⟦<CachedDisk<D> as Disk>⟧ (λ c. c.file) (λ c. rc_slice_items c.lines)
+    ghost laws = { table_laws ⟦<CachedDisk<D> as Disk>⟧ (λ c. c.file) (λ c. c.format)
+        (λ c. rc_slice_items c.lines)
         (λ c. c.place) (λ c. c.bounded) };
 
     ghost fits = { λ c. table_fits c.has_failed c.place };

@@ -8,24 +8,28 @@ ghost use Rattle.disk.specs.{IsEnvironmental, seen};
 ghost use Rattle.disk.specs.{CallsAtMost};
 ghost use Rattle.kv_types.specs.{Entry};
 ghost use Rattle.table_format.specs.declared.FileError.TheVariants.{Disk, Memory};
-ghost use Rattle.table_format.specs.{IsFilterPart, IsIndex, TableRepresents, block_lines};
+ghost use Rattle.table_format.specs.{IsFilterPart, IsIndex, TableRepresentsIn, block_lines};
 ghost use Rattle.sorted_table.specs.TableReads.{ReadsDisk};
 ghost use Rattle.sorted_table.specs.Tails.{FooterSays, HasReadTail, IsTail, ReadsTail, tail_bytes};
 ghost use Rattle.sorted_table.specs.declared.tail.Tail.{Tail};
+ghost use Rattle.byte_fields.specs.declared.format.Format.{Format};
 ghost use Rattle.table_format.specs.declared.IndexLine.{IndexLine};
 
+use byte_fields::Format;
 use disk::Disk;
 use std::alloc::Global;
 use std::rc::RcSlice;
 use table_format::sizes::FOOTER_SIZE;
 use table_format::{FileError, Footer, IndexLine, filter_of, footer_of, lines_of};
 
-/// Where the tail stands in its file, its length, and that of the filter's part, in bytes.
+/// Where the tail stands in its file, its length, and that of the filter's part, in bytes, and the
+/// format of the table.
 #[derive(Clone, Copy)]
 pub struct Tail {
     pub place: u64,
     pub len: usize,
     pub filter_len: usize,
+    pub format: Format,
 }
 
 // Whether filter and index stand directly behind one another and before the footer.
@@ -45,9 +49,10 @@ fn tail_of(footer: &[u8], end: u64) -> Option<Tail>
     ensures ends { IfSome result (λ tail. tail.place + tail.len ≡ end) }
     ensures says { MatchOption result ((tail : Tail) → FooterSays footer.now end tail → ⊥)
         (FooterSays footer.now end) }
-    ensures tail { (bytes : List ℕ) (entries : List Entry) (table : TableRepresents bytes entries) →
+    ensures tail { (format : Format) (bytes : List ℕ) (entries : List Entry)
+        (table : TableRepresentsIn format bytes entries) →
         end + FOOTER_SIZE ≡ length bytes → footer.now ≡ take FOOTER_SIZE (drop end bytes) →
-        MatchOption result ⊥ (IsTail table.blocks table.filter) }
+        MatchOption result ⊥ (IsTail format table.blocks table.filter) }
 {
     let footer = footer_of(footer)?;
     if !are_placed(footer, end) {
@@ -57,6 +62,7 @@ fn tail_of(footer: &[u8], end: u64) -> Option<Tail>
         place: footer.filter,
         len: (end - footer.filter) as usize,
         filter_len: footer.filter_len as usize,
+        format: footer.format,
     })
 }
 
@@ -112,10 +118,11 @@ pub fn read_tail<D: Disk>(
 ) -> Result<(Vec<u8>, Tail), FileError>
     ensures device { ReadsDisk D.Disk disk.old disk.new result }
     ensures calls { CallsAtMost D.Disk 3 disk.old disk.new }
-    ensures tail { (bytes : List ℕ) (entries : List Entry) (table : TableRepresents bytes entries) →
+    ensures tail { (format : Format) (bytes : List ℕ) (entries : List Entry)
+        (table : TableRepresentsIn format bytes entries) →
         D.is_honest disk.old → seen (D.state disk.old file) ≡ Some bytes →
-        MatchResult result (λ x. (x.0.items ≡ tail_bytes table.blocks table.filter)
-        × IsTail table.blocks table.filter x.1) (IsEnvironmental Disk Memory) }
+        MatchResult result (λ x. (x.0.items ≡ tail_bytes format table.blocks table.filter)
+        × IsTail format table.blocks table.filter x.1) (IsEnvironmental Disk Memory) }
     ensures there { D.is_honest disk.old → MatchResult result
         (λ x. IsSomeAnd (seen (D.state disk.old file)) (ReadsTail x.0.items x.1))
         (λ e. IsSomeAnd (seen (D.state disk.old file)) HasReadTail →
@@ -137,25 +144,28 @@ pub fn parts_of(
     tail: Tail,
 ) -> Result<(RcSlice<IndexLine>, Vec<u8>), FileError>
     requires { tail.filter_len ≤ length bytes.now }
-    ensures parts { (all : List ℕ) (entries : List Entry) (table : TableRepresents all entries) →
-        bytes.now ≡ tail_bytes table.blocks table.filter → IsTail table.blocks table.filter tail →
-        MatchResult result (λ x. (rc_slice_items x.0 ≡ block_lines 0 table.blocks)
+    ensures parts { (all : List ℕ) (entries : List Entry)
+        (table : TableRepresentsIn tail.format all entries) →
+        bytes.now ≡ tail_bytes tail.format table.blocks table.filter →
+        IsTail tail.format table.blocks table.filter tail →
+        MatchResult result (λ x. (rc_slice_items x.0 ≡ block_lines tail.format 0 table.blocks)
         × (x.1.items ≡ table.filter)) (λ e. e ≡ FileError.Memory) }
     ensures checked { MatchResult result
         (λ x. IsFilterPart (take tail.filter_len bytes.now) x.1.items
-        × IsIndex (drop tail.filter_len bytes.now) tail.place (rc_slice_items x.0)
-        × ((lines : List IndexLine) → IsIndex (drop tail.filter_len bytes.now) tail.place lines →
+        × IsIndex tail.format (drop tail.filter_len bytes.now) tail.place (rc_slice_items x.0)
+        × ((lines : List IndexLine) →
+        IsIndex tail.format (drop tail.filter_len bytes.now) tail.place lines →
         lines ≡ rc_slice_items x.0))
         (λ e. (e ≡ FileError.Memory) ⊎ ((e ≡ FileError.Damaged)
         × ((filter : List ℕ) (lines : List IndexLine) →
         IsFilterPart (take tail.filter_len bytes.now) filter →
-        IsIndex (drop tail.filter_len bytes.now) tail.place lines → ⊥))) }
+        IsIndex tail.format (drop tail.filter_len bytes.now) tail.place lines → ⊥))) }
 {
     let (filter, index) = bytes.split_at(tail.filter_len);
     let Some(filter) = filter_of(filter) else {
         return Err(FileError::Damaged);
     };
-    let lines = lines_of(alloc, index, tail.place)?;
+    let lines = lines_of(alloc, tail.format, index, tail.place)?;
     let lines = RcSlice::from_vec(lines)?;
     Ok((lines, Vec::from_slice(alloc, filter)?))
 }

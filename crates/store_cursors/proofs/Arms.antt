@@ -45,10 +45,11 @@ over_table g = record {
   as_is = g.state;
   is_intact = AreIntactFiles g;
   holds = λ meant c files. FileHolds (meant c.file);
-  is_sound = ServesMeant g (λ c. c.file) (λ c. rc_slice_items c.lines) (λ c. c.place);
+  is_sound = ServesMeant g (λ c. c.file) (λ c. c.format) (λ c. rc_slice_items c.lines)
+      (λ c. c.place);
   keeps = KeepsFiles g;
   makes = MovesFiles g;
-  suits = FileSuits g (λ c. c.file) (λ c. rc_slice_items c.lines) (λ c. c.place);
+  suits = FileSuits g (λ c. c.file) (λ c. c.format) (λ c. rc_slice_items c.lines) (λ c. c.place);
   failures = g.failures;
   left = λ c. steps_left (rc_slice_items c.lines) c.place;
   most = λ c. blocks_size (rc_slice_items c.lines);

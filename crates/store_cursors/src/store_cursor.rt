@@ -185,8 +185,9 @@ impl<'a, D: Disk + Drop> Cursor for StoreCursor<'a, D> {
         ⟦<TableCursor<D> as Cursor>⟧.is_sound ⟦<TableCursor<D> as Cursor>⟧.suits
         ⟦<TableCursor<D> as Cursor>⟧.keeps ⟦<TableCursor<D> as Cursor>⟧.most
         ⟦<TableCursor<D> as Cursor>⟧.left ⟦<TableCursor<D> as Cursor>⟧.position
-        (table_laws ⟦<CachedDisk<D> as Disk>⟧ (λ c. c.file) (λ c. rc_slice_items c.lines)
-        (λ c. c.place) (λ c. c.bounded)) (λ m. m.children.items) (λ m. m.place)) };
+        (table_laws ⟦<CachedDisk<D> as Disk>⟧ (λ c. c.file) (λ c. c.format)
+        (λ c. rc_slice_items c.lines) (λ c. c.place) (λ c. c.bounded))
+        (λ m. m.children.items) (λ m. m.place)) };
 
     ghost fits = { store_fits ⟦<MemCursor<'a> as Cursor>⟧
         ⟦<Concatenated<TableCursor<D>> as Cursor>⟧ cursor_fits

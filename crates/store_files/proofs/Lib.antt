@@ -3,6 +3,7 @@ pub mod Plans
 pub mod Entries
 pub mod Records
 pub mod NamedFiles
+pub mod Upgrades
 pub mod FlushedFiles
 pub mod FlushEdits
 pub mod FlushedTables

@@ -22,7 +22,7 @@ use Rattle.memtable.specs.declared.Memtable.{Memtable}
 use Rattle.memtable.specs.declared.error.MemtableError.{MemtableError}
 use Rattle.memtable.specs.declared.error.MemtableError.TheVariants as memtable
 use Rattle.memtable.specs.{TableHolds}
-use Rattle.table_format.specs.{IsTableEntry, TableRepresents}
+use Rattle.table_format.specs.{IsEntryOf, IsTableEntry, TableRepresents}
 use Rattle.sorted_table.specs.declared.FoundVersion.{FoundVersion}
 use Rattle.sorted_table.specs.{found_entry}
 use Rattle.store_model.specs.PlacesLemmas.{contains_cases, contains_head, contains_next}
@@ -145,7 +145,8 @@ entry_fits left line table is entry has = on_bytes (left line.file) is.represent
         (λ bytes. (length bytes ≡ line.length) × TableRepresents bytes table.entries)
         → IsTableEntry entry
     on_bytes None h = absurd h
-    on_bytes (Some bytes) h = All-contains IsTableEntry table.entries entry h.1.each has
+    on_bytes (Some bytes) h =
+        (All-contains (IsEntryOf h.1.format) table.entries entry h.1.table.each has).limits
 
 entries_fit : (left : Contents) (lines : List TableLine) (tables : List LevelTable)
     → AreTablesOf left lines tables → (table : LevelTable) → Contains tables table

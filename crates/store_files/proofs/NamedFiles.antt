@@ -9,8 +9,10 @@ use Rattle.store_model.specs.{LevelTable}
 use Rattle.store_model.specs.PlacesLemmas.{contains_head, contains_next}
 use Rattle.manifest.specs.declared.LogLine.{LogLine}
 use Rattle.manifest.specs.declared.TableLine.{TableLine}
-use Rattle.manifest.specs.{IsSlot, IsSlotFile, IsSuperseded, ManifestRepresents, NodeVersion}
-use Rattle.manifest.specs.{SlotsRepresent, other_slot}
+use Rattle.manifest.specs.{IsSlotFile, IsSlotIn, IsSuperseded, ManifestRepresents, NodeVersion}
+use Rattle.manifest.specs.{ManifestRepresentsIn, SlotsRepresentIn, other_slot}
+use Rattle.byte_fields.specs.declared.format.Format.{Format}
+use Rattle.byte_fields.specs.declared.format.Format.TheVariants as formats
 use Rattle.batch_logs.specs.Layout.{IsLog}
 use Rattle.batch_logs.specs.Layout.{records_from}
 use Rattle.batch_logs.specs.BatchLogs.{HaveBatches}
@@ -25,31 +27,37 @@ other_is_slot slot (inr two) = inl (omega (arith, two))
 module _ (left other : Contents) where
   -- the same slots have the same records
   pub records_same : ((file : ℕ) → IsSlotFile file → other file ≡ left file)
-      → (id : ℕ) (records : List (List ℕ)) → SlotsRepresent id records left
-      → SlotsRepresent id records other
-  records_same same id records h = record {
+      → (format : Format) (id : ℕ) (records : List (List ℕ))
+      → SlotsRepresentIn format id records left → SlotsRepresentIn format id records other
+  records_same same format id records h = record {
     slot = h.slot;
     one = h.one;
     generation = h.generation;
     limit = h.limit;
-    counting = subst (λ (o : Option (List ℕ)). IsSomeAnd o (IsSlot h.generation id records))
+    counting = subst (λ (o : Option (List ℕ)).
+        IsSomeAnd o (IsSlotIn format h.generation id records))
         (sym (same h.slot h.one)) h.counting;
     other = subst (λ (o : Option (List ℕ)). IsSomeAnd o (IsSuperseded h.generation))
         (sym (same (other_slot h.slot) (other_is_slot h.slot h.one))) h.other;
   }
 
   -- and the same version
-  pub version_same : ((file : ℕ) → IsSlotFile file → other file ≡ left file)
-      → (named : NodeVersion) → ManifestRepresents named left → ManifestRepresents named other
-  version_same same named h = record {
+  pub version_same_in : ((file : ℕ) → IsSlotFile file → other file ≡ left file)
+      → (format : Format) (named : NodeVersion) → ManifestRepresentsIn format named left
+      → ManifestRepresentsIn format named other
+  version_same_in same format named h = record {
     id = h.id;
     changes = h.changes;
     some = h.some;
     each = h.each;
     fit = h.fit;
     is = h.is;
-    records = records_same same named.id _ h.records;
+    records = records_same same format named.id _ h.records;
   }
+
+  pub version_same : ((file : ℕ) → IsSlotFile file → other file ≡ left file)
+      → (named : NodeVersion) → ManifestRepresents named left → ManifestRepresents named other
+  version_same same named h = version_same_in same formats.Two named h
 
   -- the same logs have the same batches
   pub logs_same : (number : ℕ) (lines : List LogLine) (batches : List BatchContent)

@@ -15,5 +15,6 @@ pub mod Raising
 pub mod Merging
 pub mod FloorExamples
 pub mod HeldFiles
+pub mod Upgrades
 pub mod RangeEntries
 pub mod ShownValues

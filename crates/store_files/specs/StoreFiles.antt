@@ -18,7 +18,9 @@ use Rattle.manifest.specs.declared.LogLine.{LogLine}
 use Rattle.manifest.specs.declared.TableLine.{TableLine}
 use Rattle.record_log.specs.{IsDurableAs}
 use Rattle.manifest.specs.{HasFirstSlots, IsNotCreated, IsOldStore, IsSlotFile, ManifestRepresents}
-use Rattle.manifest.specs.{NodeVersion, StoreVersion}
+use Rattle.manifest.specs.{ManifestRepresentsIn, NodeVersion, StoreVersion}
+use Rattle.byte_fields.specs.declared.format.Format.{Format}
+use Rattle.byte_fields.specs.declared.format.Format.TheVariants as formats
 use Rattle.manifest.specs.{Change, changed, first_version}
 use Rattle.store_files.specs.Files.{Facts}
 use Rattle.batch_logs.specs.Layout.{IsLog}
@@ -51,12 +53,12 @@ pub record AreOrderedNumbers (version : StoreVersion) (trimmed count : ℕ) : Ty
   pub floor_count : version.floor ≤ count
   pub few : count ≤ MAX_NUMBER
 
--- The slots represent a version, its logs have the batches behind the first `kept` ones, and its
--- tables and these batches together represent the list.
-pub record FilesRepresent (facts : Facts) (list : List BatchContent) (left : Contents)
-    : Type 0 where
+-- The slots, of this format, represent a version, its logs have the batches behind the first `kept`
+-- ones, and its tables and these batches together represent the list.
+pub record FilesRepresentIn (format : Format) (facts : Facts) (list : List BatchContent)
+    (left : Contents) : Type 0 where
   pub version : StoreVersion
-  pub manifest : ManifestRepresents (record { id = facts.id; version = version }) left
+  pub manifest : ManifestRepresentsIn format (record { id = facts.id; version = version }) left
   pub epoch : version.epoch ≡ facts.epoch
   pub ids : version.ids ≡ facts.ids
   pub floor : version.floor ≡ facts.floor
@@ -66,6 +68,15 @@ pub record FilesRepresent (facts : Facts) (list : List BatchContent) (left : Con
   pub store : StoreRepresents list (store_of_version version facts.kept tables)
   pub each : All IsBatch list
   pub few : length list ≤ MAX_NUMBER
+
+-- they do so with slots of format 2, the one that is opened
+abbrev pub FilesRepresent : Facts → List BatchContent → Contents → Type 0
+FilesRepresent facts list left = FilesRepresentIn formats.Two facts list left
+
+-- they do so with slots of format 1 or of format 2
+abbrev pub FilesRepresentInEither : Facts → List BatchContent → Contents → Type 0
+FilesRepresentInEither facts list left =
+    (format : Format) × FilesRepresentIn format facts list left
 
 -- the files represent one of two stores
 abbrev pub IsOneOf : Facts → List BatchContent → Facts → List BatchContent → Contents → Type 0

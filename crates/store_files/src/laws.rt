@@ -9,6 +9,7 @@ ghost use Rattle.store_files.specs.StoreFiles.{DamagedFilesOpen, FirstFilesRepre
 ghost use Rattle.store_files.specs.StoreFiles.{FlushesRepresent, LongerLogsRepresent};
 ghost use Rattle.store_files.specs.StoreFiles.{StoreFilesAreNamed, StoreFilesAreOne};
 ghost use Rattle.store_files.specs.StoreFiles.{StoreFilesShowMaps};
+ghost use Rattle.store_files.specs.Upgrades.{FormatsOutlastCrashes, FormatsRepresentAlike};
 
 use disk::laws::{durable_file_is_left, reads_are_outcomes};
 use kv_types::laws::spellings_differ;
@@ -21,6 +22,16 @@ use store_model::{appends_keep, empty_represents, flushes_keep, look_ups_are_map
 pub fn store_files_are_named()
     ensures { StoreFilesAreNamed }
 {}
+
+/// Files whose slots are of the other format, with the same version, represent the same; so it is
+/// with what a crash leaves of them.
+// law: of `FilesRepresentIn`
+pub fn formats_represent_alike()
+    ensures alike { FormatsRepresentAlike }
+    ensures outlast { FormatsOutlastCrashes }
+{
+    version_is_one(); // law: files represent one version at most, in one format
+}
 
 /// Files represent one node's facts and one list of batches at most, the trimmed batches apart.
 // law: of `FilesRepresent`

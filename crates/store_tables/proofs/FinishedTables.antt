@@ -14,6 +14,7 @@ use Rattle.memtable.specs.declared.Memtable.{Memtable}
 use Rattle.memtable.specs.{TableHolds}
 use Rattle.table_format.specs.RisingLemmas.{last_among, last_of_some}
 use Rattle.table_format.specs.{AreRising, TableRepresents, last_entry}
+use Rattle.byte_fields.specs.declared.format.Format.TheVariants.{Two}
 use Rattle.table_builder.specs.declared.Finished.{Finished}
 use Rattle.table_builder.specs.{IsFinishedTable, first_entry}
 use Rattle.sorted_table.specs.{greatest_key}
@@ -98,7 +99,7 @@ written_table disk memtable file entries done named f alike =
         represents = subst
             (λ (slot : Slot). IsSomeAnd (seen slot)
             (λ bytes. (length bytes ≡ done.length) × TableRepresents bytes entries))
-            (sym f.holds.durable) (sym f.len, r);
+            (sym f.holds.durable) (sym f.len, record { format = Two; table = r });
         least = ends.first;
         greatest = ends.last;
       };

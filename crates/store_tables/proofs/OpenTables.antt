@@ -13,8 +13,10 @@ use Rattle.table_format.specs.{TableRepresents}
 use Rattle.table_format.specs.declared.FileError.{FileError}
 use Rattle.sorted_table.specs.{CanBeOpen, FileRepresents, HasItsLines, HasTail, IsOpenOn}
 use Rattle.sorted_table.specs.{LookupAnswer, LookupFinds, TableServes}
+use Rattle.byte_fields.specs.declared.format.Format.{Format}
 use Rattle.table_format.specs.declared.IndexLine.{IndexLine}
 use Rattle.sorted_table.specs.{greatest_key, index_lines, last_line_key, table_file, table_filter}
+use Rattle.sorted_table.specs.{table_format}
 use Rattle.sorted_table.specs.declared.Table.{Table}
 use Rattle.sorted_table.specs.declared.FoundVersion.{FoundVersion}
 use Rattle.table_files.specs.{inner_disk}
@@ -101,6 +103,7 @@ lookup_lacks file meant table entries range key at e in_range serves is found ch
     by_answer on (inl denied) = let is = denied.1 in absurd cc
     by_answer on (inr it) = record {
       in_range = in_range;
+      format = table_format table;
       lines = index_lines table;
       filter = table_filter table;
       tail = on;
@@ -169,7 +172,7 @@ fit_same old new line same fit =
 pub fit_read : (file : Option (List ℕ)) (line : TableLine) (len : ℕ)
     → IsSomeAnd file (λ bytes. (len ≡ length bytes) × (len < 2 ^ 63)) → len ≡ line.length
     → (table : Table) → IsSomeAnd file
-    (λ bytes. HasTail bytes (index_lines table) (table_filter table))
+    (λ bytes. HasTail (table_format table) bytes (index_lines table) (table_filter table))
     → last_line_key (index_lines table) ≡ Some line.greatest
     → ((entries : List Entry) → IsSomeAnd file (λ bytes. TableRepresents bytes entries)
     → greatest_key entries ≡ Some line.greatest)
@@ -177,6 +180,7 @@ pub fit_read : (file : Option (List ℕ)) (line : TableLine) (len : ℕ)
 fit_read None line len answer same table tail last ends = absurd answer
 fit_read (Some bytes) line len answer same table tail last ends = record {
   len = sym answer.0 ∙ same;
+  format = table_format table;
   lines = index_lines table;
   filter = table_filter table;
   tail = tail;
@@ -198,31 +202,33 @@ pub fits_opens : (old new : Slot) (line : TableLine) → seen new ≡ seen old
     → IsSomeAnd (seen old) (FitsLine line) → CanBeOpen new
 fits_opens old new line same fit =
     subst (λ (o : Option (List ℕ)). IsSomeAnd o
-    (λ bytes. (lines : List IndexLine) × (filter : List ℕ) × HasTail bytes lines filter)) (sym same)
+    (λ bytes. (format : Format) × (lines : List IndexLine) × (filter : List ℕ)
+    × HasTail format bytes lines filter)) (sym same)
     (fit_tail (seen old) line fit)
   where
     fit_tail : (o : Option (List ℕ)) (line : TableLine) → IsSomeAnd o (FitsLine line)
         → IsSomeAnd o (λ bytes.
-        (lines : List IndexLine) × (filter : List ℕ) × HasTail bytes lines filter)
+        (format : Format) × (lines : List IndexLine) × (filter : List ℕ)
+        × HasTail format bytes lines filter)
     fit_tail None line fit = absurd fit
-    fit_tail (Some bytes) line fit = (fit.lines, fit.filter, fit.tail)
+    fit_tail (Some bytes) line fit = (fit.format, fit.lines, fit.filter, fit.tail)
 
 -- and its last line has the line's greatest key
 pub fits_last : (old new : Slot) (line : TableLine) → seen new ≡ seen old
     → IsSomeAnd (seen old) (FitsLine line) → (table : Table) → HasItsLines new table
     → last_line_key (index_lines table) ≡ Some line.greatest
 fits_last old new line same fit table has =
-    last_of (seen old) fit (λ lines filter tail. has lines filter
-    (subst (λ (o : Option (List ℕ)). IsSomeAnd o (λ bytes. HasTail bytes lines filter)) (sym same)
-    tail))
+    last_of (seen old) fit (λ format lines filter tail. (has format lines filter
+    (subst (λ (o : Option (List ℕ)). IsSomeAnd o (λ bytes. HasTail format bytes lines filter))
+    (sym same) tail)).1)
   where
     last_of : (o : Option (List ℕ)) → IsSomeAnd o (FitsLine line)
-        → ((lines : List IndexLine) (filter : List ℕ)
-        → IsSomeAnd o (λ bytes. HasTail bytes lines filter) → lines ≡ index_lines table)
+        → ((format : Format) (lines : List IndexLine) (filter : List ℕ)
+        → IsSomeAnd o (λ bytes. HasTail format bytes lines filter) → lines ≡ index_lines table)
         → last_line_key (index_lines table) ≡ Some line.greatest
     last_of None fit same = absurd fit
     last_of (Some bytes) fit same =
-        ap last_line_key (sym (same fit.lines fit.filter fit.tail)) ∙ fit.last
+        ap last_line_key (sym (same fit.format fit.lines fit.filter fit.tail)) ∙ fit.last
 
 pub same_back : (old new : State) → IsSame old new → IsSame new old
 same_back old new same file = sym (same file)

@@ -8,11 +8,13 @@ use Rattle.byte_fields.specs.{StoredKey}
 use Rattle.kv_types.specs.{BatchContent, Entry, IsNewest, IsUnseen, stored_map_of}
 use Rattle.table_builder.specs.{first_entry}
 use Rattle.table_format.specs.{TableRepresents}
+use Rattle.byte_fields.specs.declared.format.Format.{Format}
 use Rattle.table_format.specs.declared.IndexLine.{IndexLine}
 use Rattle.table_format.specs.declared.FileError.{FileError}
 use Rattle.table_format.specs.declared.FileError.TheVariants as reading
 use Rattle.sorted_table.specs.{AreAsMeant, FileRepresents, HasTail, IsOpenOn, TableServes}
 use Rattle.sorted_table.specs.{found_entry, greatest_key, index_lines, last_line_key, table_file}
+use Rattle.sorted_table.specs.{table_format}
 use Rattle.sorted_table.specs.declared.Table.{Table}
 use Rattle.sorted_table.specs.declared.FoundVersion.{FoundVersion}
 use Rattle.store_model.specs.{KeyRange, LevelTable, StoreFinds, StoreRepresents, StoreState}
@@ -55,14 +57,15 @@ pub record IsTableOf (left : Contents) (line : TableLine) (table : LevelTable) :
 abbrev pub AreTablesOf : Contents → List TableLine → List LevelTable → Type 0
 AreTablesOf left = AllZip (IsTableOf left)
 
--- The bytes have the line's length. They end in a filter, an index and a footer, whatever stands
--- before, and the last line of the index has the line's greatest key. Where they represent a table,
--- that is its greatest key.
+-- The bytes have the line's length. They end in a filter, an index and a footer of one format,
+-- whatever stands before, and the last line of the index has the line's greatest key. Where they
+-- represent a table, that is its greatest key.
 pub record FitsLine (line : TableLine) (bytes : List ℕ) : Type 0 where
   pub len : length bytes ≡ line.length
+  pub format : Format
   pub lines : List IndexLine
   pub filter : List ℕ
-  pub tail : HasTail bytes lines filter
+  pub tail : HasTail format bytes lines filter
   pub last : last_line_key lines ≡ Some line.greatest
   pub greatest : (entries : List Entry) → TableRepresents bytes entries →
       greatest_key entries ≡ Some line.greatest
@@ -116,13 +119,14 @@ abbrev pub IsTableAsMeant : Slot → Slot → Type 0
 IsTableAsMeant file meant =
     (file ≡ meant)
     ⊎ ((table : Table) (entries : List Entry) → IsOpenOn file table → FileRepresents meant entries →
-    TableServes meant table entries × AreAsMeant file meant (index_lines table))
+    TableServes meant table entries
+    × AreAsMeant (table_format table) file meant (index_lines table))
 
 -- The table is open on the file, or the file is the one that was meant. Each block of the table
 -- that the file has is the one that was meant.
 pub record IsOpenAsMeant (file meant : Slot) (table : Table) : Type 0 where
   pub opened : (file ≡ meant) ⊎ IsOpenOn file table
-  pub blocks : AreAsMeant file meant (index_lines table)
+  pub blocks : AreAsMeant (table_format table) file meant (index_lines table)
 
 -- the open table's file is so
 abbrev pub HasMeantBlocks : State → State → OpenTable → Type 0

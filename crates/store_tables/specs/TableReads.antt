@@ -7,6 +7,8 @@ use Rattle.disk.specs.{Contents, IsEnvironmental, IsSame, IsStill, KeepsDisk, Sl
 use Rattle.disk.specs.{contents, seen}
 use Rattle.byte_fields.specs.{StoredKey}
 use Rattle.merge_iter.specs.{spot}
+use Rattle.table_format.specs.{filter_key}
+use Rattle.byte_fields.specs.declared.format.Format.{Format}
 use Rattle.table_format.specs.declared.IndexLine.{IndexLine}
 use Rattle.sorted_table.specs.{HasTail, IsBlockAtLine}
 use Rattle.sorted_table.specs.Searches.{IsLinePlace}
@@ -40,14 +42,15 @@ pub record ReadsTables {D T : Type 0} (g : Ghosts D) (disk later : D)
 -- says.
 pub record LacksBlock (file : Slot) (range : KeyRange) (key : StoredKey) (at : ℕ) : Type 0 where
   pub in_range : RangeHolds range key
+  pub format : Format
   pub lines : List IndexLine
   pub filter : List ℕ
-  pub tail : IsSomeAnd (seen file) (λ bytes. HasTail bytes lines filter)
-  pub in_filter : Covers filter key
+  pub tail : IsSomeAnd (seen file) (λ bytes. HasTail format bytes lines filter)
+  pub in_filter : Covers filter (filter_key format key)
   pub n : ℕ
   pub place : IsLinePlace lines (spot key at) n
   pub there : n < length lines
-  pub damaged : (part : List ℕ) → IsBlockAtLine lines n file part → ⊥
+  pub damaged : (part : List ℕ) → IsBlockAtLine format lines n file part → ⊥
 
 -- The file of one of these tables lacks the block of the key, and the table was needed: where the
 -- tables stand in order of level, none of a lesser level has an entry of the key that is seen at

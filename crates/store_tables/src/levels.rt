@@ -7,8 +7,10 @@ ghost use Rattle.bloom.specs.{hashes_of};
 ghost use Rattle.disk.specs.{IsEnvironmental, Slot, State};
 ghost use Rattle.kv_types.specs.{Entry, stored_span};
 ghost use Rattle.sorted_table.specs.{TableServes, greatest_key, index_lines, last_line_key};
+ghost use Rattle.sorted_table.specs.{table_format};
 ghost use Rattle.store_model.specs.{AreLeveled, FitsRange, KeyRange, LevelTable, RangeHolds};
 ghost use Rattle.store_model.specs.{level_entries};
+ghost use Rattle.table_format.specs.{filter_key};
 ghost use Rattle.version_edits.specs.Versions.{table_is_before};
 ghost use Rattle.compaction.specs.Merges.{AreCursorsOf, AreIntactCursors};
 ghost use Rattle.compaction.specs.Plans.{model_plan};
@@ -28,12 +30,12 @@ ghost use Rattle.store_tables.specs.TableReads.{by_one_line};
 use crate::EngineError;
 use crate::series::TableSeries;
 use bloom::KeyHashes;
-use byte_fields::StoredKey;
+use byte_fields::{Format, StoredKey};
 use compaction::Plan;
 use disk::Disk;
 use kv_types::{Number, Range};
 use merge_iter::Cursor;
-use sorted_table::{FoundVersion, Table, TableCursor};
+use sorted_table::{FoundVersion, Table, TableCursor, hashes_in};
 use std::alloc::{AllocError, Global};
 use store_cursors::StoreCursor;
 use table_files::CachedDisk;
@@ -121,6 +123,18 @@ impl OpenTable {
         self.table.cursor(alloc)
     }
 
+    // The hashes of the key in the filter of the table: these, which are those of format 2, or
+    // others, of format 1, for which the key is digested once more.
+    fn hashes_for(&self, key: &StoredKey, hashes: KeyHashes) -> KeyHashes
+        requires { hashes ≡ hashes_of key.now }
+        ensures { result ≡ hashes_of (filter_key (table_format self.now.table) key.now) }
+    {
+        match self.table.format() {
+            Format::One => hashes_in(Format::One, key.lent()),
+            Format::Two => hashes,
+        }
+    }
+
     // What the table has of the key with these hashes. Where the range of the table does not hold
     // the key, it is not read. `Damaged` only where its file lacks the block of the key.
     fn get<D: Disk + Drop>(
@@ -151,6 +165,7 @@ impl OpenTable {
         if !self.may_have(key) {
             return Ok(None);
         }
+        let hashes = self.hashes_for(key, hashes);
         Ok(
             self.table
                 .get_hashed(alloc, files, key.lent(), hashes, at.get())?,

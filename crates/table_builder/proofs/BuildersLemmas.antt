@@ -17,6 +17,7 @@ use Rattle.table_format.specs.{IsTableEntry, block_content, table_error}
 use Rattle.table_format.specs.{block_lines, entries_of_blocks, entry_bytes, line_bytes}
 use Rattle.table_format.specs.FrontsLemmas.{length-block_content, length-block_part}
 use Rattle.table_format.specs.RisingLemmas.{last_push, rising_push}
+use Rattle.byte_fields.specs.declared.format.Format.TheVariants.{Two}
 use Rattle.table_builder.specs.declared.builder.Builder.{Builder}
 use Rattle.table_builder.specs.Builders.{AddOutcome, AddRefusal, CanAdd, HasBuilderFailed}
 use Rattle.table_builder.specs.Builders.{HeldOutcome, HeldRefusal, HoldsDivision, HoldsEntries}
@@ -36,7 +37,7 @@ fine it entries h = division_fine entries (recursion_from_All IsTableEntry entri
 -- what is closed and what is in memory is not much
 pub record Bounds (it : Builder) (entries : List Entry) : Type 0 where
   pub written : it.written ≤ MAX_DATA
-  pub content : length (block_content (division entries).opened) < BLOCK_SIZE
+  pub content : length (block_content Two (division entries).opened) < BLOCK_SIZE
   pub entries_few : 9 * length entries ≤ MAX_DATA + 4096
   pub blocks_few : 4104 * length (division entries).closed ≤ MAX_DATA
   pub opened_few : length (division entries).opened < 4096
@@ -49,7 +50,7 @@ bounds it entries h =
     let long = f.long in
     let short = f.short in
     let sizes = length-finished parts in
-    let content = length-block_content parts.opened in
+    let content = length-block_content Two parts.opened in
     let written = h.parts.closed.written in
     let opened_long = entries_long parts.opened in
     record {
@@ -72,17 +73,21 @@ bounds it entries h =
 
 -- the data's size, by what is closed and by the open block's content
 pub size_some : (opened : List Entry) → 0 < length opened
-    → open_size opened ≡ length (block_content opened) + 8
+    → open_size opened ≡ length (block_content Two opened) + 8
 size_some [] some = absurd (omega (arith, some))
 size_some (entry ∷ entries) some =
-    omega (arith, length-block_part (entry ∷ entries), length-block_content (entry ∷ entries))
+    omega (
+      arith,
+      length-block_part Two (entry ∷ entries),
+      length-block_content Two (entry ∷ entries),
+    )
 
 -- ---- an entry is held
 
 -- the open block with the entry can be closed
 pub can_close : (old mid : Builder) (entries : List Entry) (entry : Entry)
     → HoldsEntries old entries → IsTableEntry entry → KnowsKeys mid.keys (entries ++ entry ∷ [])
-    → HoldsItems entry_bytes mid.block ((division entries).opened ++ entry ∷ [])
+    → HoldsItems (entry_bytes Two) mid.block ((division entries).opened ++ entry ∷ [])
     → mid.written ≡ old.written → mid.index ≡ old.index
     → CanClose mid (division entries).closed
     (record { front = (division entries).opened; last = entry })
@@ -95,7 +100,8 @@ can_close old mid entries entry h is knows has written index =
     record {
       closed = record {
         written = written ∙ h.parts.closed.written;
-        index = subst (λ i. HoldsItems line_bytes i (block_lines 0 (division entries).closed))
+        index = subst (λ i. HoldsItems (line_bytes Two) i
+            (block_lines Two 0 (division entries).closed))
             (sym index)
             h.parts.closed.index;
       };

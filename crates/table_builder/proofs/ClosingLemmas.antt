@@ -7,7 +7,7 @@ use Rattle.std.specs.Prelude.{OnOk}
 use Rattle.std.specs.List.{flat_map, AllByRecursion}
 use Rattle.std.proofs.lemmas.List.{append-nil}
 use Rattle.std.proofs.lemmas.List.Concat.{flat_map-cons}
-use Rattle.std.proofs.lemmas.List.Elements.{All-from_recursion, recursion_from_All}
+use Rattle.std.proofs.lemmas.List.Elements.{All-from_recursion, All-weaker, recursion_from_All}
 use Rattle.bloom.specs.{IsFilter}
 use Rattle.byte_fields.specs.{IsStoredKey, key_bytes}
 use Rattle.byte_fields.specs.SpelledKeysLemmas.{key_bytes-short}
@@ -15,7 +15,8 @@ use Rattle.kv_types.specs.{Entry}
 use Rattle.table_format.specs.declared.Footer.{Footer}
 use Rattle.table_format.specs.declared.IndexLine.{IndexLine}
 use Rattle.table_format.specs.Tables.{begins_with}
-use Rattle.table_format.specs.{Block, IsTableEntry, TableRepresents, be32, be64, block_bytes}
+use Rattle.table_format.specs.{Block, IsEntryOf, IsTableEntry, TableRepresentsIn, be32, be64}
+use Rattle.table_format.specs.{block_bytes}
 use Rattle.table_format.specs.{block_content, block_entries, block_line, block_lines, data_bytes}
 use Rattle.table_format.specs.{different_keys, entries_of_blocks, entry_bytes, filter_part}
 use Rattle.table_format.specs.{footer_part}
@@ -26,6 +27,7 @@ use Rattle.table_format.specs.PassedLemmas.{all_push}
 use Rattle.table_format.specs.RisingLemmas.{last_push}
 use Rattle.table_format.specs.SealedLemmas.{length-sealed}
 use Rattle.table_format.specs.TablesLemmas.{length-footer}
+use Rattle.byte_fields.specs.declared.format.Format.TheVariants.{Two}
 use Rattle.table_builder.specs.declared.builder.Builder.{Builder}
 use Rattle.table_builder.specs.Builders.{HoldsBlocks, HoldsEntries}
 use Rattle.table_builder.specs.Closing.{CanClose, CanEnd}
@@ -46,10 +48,11 @@ on_ok_map (Err e) so p = tt
 -- ---- the line of a block
 
 pub line_is : (line : IndexLine) (place : ℕ) (one : Block) → line.place ≡ place
-    → line.len ≡ length (block_bytes one) → line.key ≡ one.last.key → line.number ≡ one.last.number
-    → line ≡ block_line place one
+    → line.len ≡ length (block_bytes Two one) → line.key ≡ one.last.key
+    → line.number ≡ one.last.number
+    → line ≡ block_line Two place one
 line_is line place one at len key number =
-    same line.place place line.len (length (block_bytes one)) line.key one.last.key line.number
+    same line.place place line.len (length (block_bytes Two one)) line.key one.last.key line.number
     one.last.number at len key number
   where
     same : (p q m n : ℕ) (k l : List ℕ) (i j : ℕ) → p ≡ q → m ≡ n → k ≡ l → i ≡ j →
@@ -78,7 +81,7 @@ length-filter_part filter =
       length-append (be32 (length filter)) filter,
     )
 
-line_short : (line : IndexLine) → IsStoredKey line.key → length (line_bytes line) ≤ 1047
+line_short : (line : IndexLine) → IsStoredKey line.key → length (line_bytes Two line) ≤ 1047
 line_short line is =
     let short = key_bytes-short line.key is in
     omega (
@@ -91,30 +94,30 @@ line_short line is =
 
 lines_short : (place : ℕ) (blocks : List Block)
     → AllByRecursion IsTableEntry (entries_of_blocks blocks)
-    → length (flat_map line_bytes (block_lines place blocks)) ≤ 1047 * length blocks
+    → length (flat_map (line_bytes Two) (block_lines Two place blocks)) ≤ 1047 * length blocks
 lines_short place [] each = omega arith
 lines_short place (block ∷ blocks) each =
     let parts = split_each IsTableEntry (block_entries block) (entries_of_blocks blocks)
     (subst (AllByRecursion IsTableEntry) (flat_map-cons block_entries block blocks) each) in
     let last = split_each IsTableEntry block.front (block.last ∷ []) parts.0 in
-    let rest = block_lines (place + length (block_bytes block)) blocks in
-    let below = lines_short (place + length (block_bytes block)) blocks parts.1 in
+    let rest = block_lines Two (place + length (block_bytes Two block)) blocks in
+    let below = lines_short (place + length (block_bytes Two block)) blocks parts.1 in
     let key = last.1.0.key in
     omega (
       arith,
       below,
-      line_short (block_line place block) key,
-      ap length (flat_map-cons line_bytes (block_line place block) rest),
-      length-append (line_bytes (block_line place block)) (flat_map line_bytes rest),
+      line_short (block_line Two place block) key,
+      ap length (flat_map-cons (line_bytes Two) (block_line Two place block) rest),
+      length-append (line_bytes Two (block_line Two place block)) (flat_map (line_bytes Two) rest),
     )
 
 length-index_part : (lines : List IndexLine)
-    → length (index_part lines) ≡ 12 + length (flat_map line_bytes lines)
+    → length (index_part Two lines) ≡ 12 + length (flat_map (line_bytes Two) lines)
 length-index_part lines =
     omega (
       arith,
-      length-sealed (index_content lines),
-      length-append (be32 (length lines)) (flat_map line_bytes lines),
+      length-sealed (index_content Two lines),
+      length-append (be32 (length lines)) (flat_map (line_bytes Two) lines),
     )
 
 -- ---- a table is ended
@@ -122,8 +125,8 @@ length-index_part lines =
 -- its lengths fit their fields
 pub record TailFits (blocks : List Block) (filter : List ℕ) : Type 0 where
   pub filter_len : length (filter_part filter) < 2 ^ 32
-  pub index_len : length (index_part (block_lines 0 blocks)) < 2 ^ 32
-  pub lines : length (block_lines 0 blocks) < 2 ^ 32
+  pub index_len : length (index_part Two (block_lines Two 0 blocks)) < 2 ^ 32
+  pub lines : length (block_lines Two 0 blocks) < 2 ^ 32
 
 pub tail_fits : (it : Builder) (blocks : List Block) (entries : List Entry) (filter : List ℕ)
     → CanEnd it blocks entries → IsFilter (different_keys entries) filter → TailFits blocks filter
@@ -145,7 +148,7 @@ tail_fits it blocks entries filter can exact =
       );
       index_len = omega (
         arith,
-        length-index_part (block_lines 0 blocks),
+        length-index_part (block_lines Two 0 blocks),
         lines_short 0 blocks each,
         long,
         size,
@@ -156,20 +159,22 @@ tail_fits it blocks entries filter can exact =
 -- filter, index and footer behind the blocks
 pub is_table : (it : Builder) (blocks : List Block) (entries : List Entry) (filter tail : List ℕ)
     → CanEnd it blocks entries → IsFilter (different_keys entries) filter
-    → tail ≡ tail_of filter (index_part (block_lines 0 blocks)) it.written it.keys.count
-    → (holds : TableRepresents (data_bytes blocks ++ tail) entries) × (holds.blocks ≡ blocks)
+    → tail ≡ tail_of filter (index_part Two (block_lines Two 0 blocks)) it.written it.keys.count
+    → (holds : TableRepresentsIn Two (data_bytes Two blocks ++ tail) entries)
+    × (holds.blocks ≡ blocks)
 is_table it blocks entries filter tail can exact tail_is =
     let fits = tail_fits it blocks entries filter can exact in
-    let index = index_part (block_lines 0 blocks) in
+    let index = index_part Two (block_lines Two 0 blocks) in
     let count = can.keys.count ∙ ap length can.division in (
       record {
         blocks = blocks;
         filter = filter;
-        spelled = ap (λ (t : List ℕ). data_bytes blocks ++ t)
+        spelled = ap (λ (t : List ℕ). data_bytes Two blocks ++ t)
             (tail_is ∙ ap₂ (tail_of filter index) can.closed.written count);
         division = can.division;
         some = can.some;
-        each = can.each;
+        each = All-weaker IsTableEntry (IsEntryOf Two)
+            (λ entry is. record { limits = is; key = tt }) entries can.each;
         rising = can.rising;
         exact = exact;
         fits = record {
@@ -192,6 +197,7 @@ length-tail_of filter index place entries =
       filter = place;
       filter_len = length (filter_part filter);
       entries = entries;
+      format = Two;
     } in
     omega (
       arith,
@@ -256,15 +262,15 @@ can_close_last it entries first others h is =
     let few = m.blocks_few in
     record {
       closed = h.parts.closed;
-      entries = subst (HoldsItems entry_bytes it.block) opened h.parts.block;
+      entries = subst (HoldsItems (entry_bytes Two) it.block) opened h.parts.block;
       key = ends.0;
       number = ends.1;
       small = omega (
         arith,
         short,
-        ap (λ (r : List Entry). length (block_content r)) opened,
-        length-block_content (block_entries one),
-        length-block_part (block_entries one),
+        ap (λ (r : List Entry). length (block_content Two r)) opened,
+        length-block_content Two (block_entries one),
+        length-block_part Two (block_entries one),
       );
       few = omega (arith, few);
       room = omega (arith, m.written, h.parts.closed.written);
@@ -289,7 +295,7 @@ module _ (it : Builder) (entries : List Entry) (h : HoldsEntries it entries)
         each = h.each;
         rising = h.rising;
         size = h.size;
-        small = All-from_recursion IsShortBlock (finished_blocks parts)
+        small = All-from_recursion (IsShortBlock Two) (finished_blocks parts)
             (smalls parts.opened f.short);
         long = omega (arith, long, length-finished parts, more);
       }
@@ -312,18 +318,18 @@ module _ (it : Builder) (entries : List Entry) (h : HoldsEntries it entries)
         length-append (division entries).closed (block_from x xs ∷ []),
       )
 
-      smalls : (opened : List Entry) → length (block_content opened) < 4096
-          → AllByRecursion IsShortBlock ((division entries).closed ++ last_block opened)
-      smalls [] short = subst (AllByRecursion IsShortBlock)
+      smalls : (opened : List Entry) → length (block_content Two opened) < 4096
+          → AllByRecursion (IsShortBlock Two) ((division entries).closed ++ last_block opened)
+      smalls [] short = subst (AllByRecursion (IsShortBlock Two))
           (sym (append-nil (division entries).closed)) (fine it entries h).small
       smalls (x ∷ xs) short =
-          all_push IsShortBlock (division entries).closed (block_from x xs)
+          all_push (IsShortBlock Two) (division entries).closed (block_from x xs)
           (fine it entries h).small
           (omega (
             arith,
             short,
-            ap (λ (r : List Entry). length (block_content r))
+            ap (λ (r : List Entry). length (block_content Two r))
                 (block_from_entries x xs),
-            length-block_content (block_entries (block_from x xs)),
-            length-block_part (block_entries (block_from x xs)),
+            length-block_content Two (block_entries (block_from x xs)),
+            length-block_part Two (block_entries (block_from x xs)),
           ))

@@ -21,6 +21,7 @@ use Rattle.table_format.specs.{entry_bytes}
 use Rattle.table_format.specs.FrontsLemmas.{IsShortBlock, entry_long, length-block_content}
 use Rattle.table_format.specs.FrontsLemmas.{length-block_part}
 use Rattle.table_format.specs.PassedLemmas.{all_push, flat_push}
+use Rattle.byte_fields.specs.declared.format.Format.TheVariants.{Two}
 use Rattle.table_builder.specs.Divisions.{Division, block_from, data_size, division}
 use Rattle.table_builder.specs.Divisions.{finished_blocks, last_block, with_entries, with_entry}
 
@@ -36,11 +37,11 @@ pub division_push : (entries : List Entry) (entry : Entry)
 division_push entries entry = entries_push (record { closed = []; opened = [] }) entries entry
 
 pub length-data_push : (blocks : List Block) (one : Block)
-    → length (data_bytes (blocks ++ one ∷ []))
-    ≡ length (data_bytes blocks) + length (block_bytes one)
+    → length (data_bytes Two (blocks ++ one ∷ []))
+    ≡ length (data_bytes Two blocks) + length (block_bytes Two one)
 length-data_push blocks one =
-    ap length (flat_push block_bytes blocks one)
-    ∙ length-append (data_bytes blocks) (block_bytes one)
+    ap length (flat_push (block_bytes Two) blocks one)
+    ∙ length-append (data_bytes Two blocks) (block_bytes Two one)
 
 pub entries_of_push : (blocks : List Block) (one : Block)
     → entries_of_blocks (blocks ++ one ∷ []) ≡ entries_of_blocks blocks ++ block_entries one
@@ -61,51 +62,51 @@ block_from_entries entry (next ∷ others) =
 -- the bytes of the open block; none without entries
 abbrev pub open_size : List Entry → ℕ
 open_size [] = 0
-open_size (entry ∷ entries) = length (block_part (entry ∷ entries))
+open_size (entry ∷ entries) = length (block_part Two (entry ∷ entries))
 
-pub length-finished : (it : Division) → length (data_bytes (finished_blocks it))
-    ≡ length (data_bytes it.closed) + open_size it.opened
+pub length-finished : (it : Division) → length (data_bytes Two (finished_blocks it))
+    ≡ length (data_bytes Two it.closed) + open_size it.opened
 length-finished it = by it.opened
   where
-    by : (opened : List Entry) → length (data_bytes (it.closed ++ last_block opened))
-        ≡ length (data_bytes it.closed) + open_size opened
-    by [] = omega (arith, ap (λ (b : List Block). length (data_bytes b)) (append-nil it.closed))
+    by : (opened : List Entry) → length (data_bytes Two (it.closed ++ last_block opened))
+        ≡ length (data_bytes Two it.closed) + open_size opened
+    by [] = omega (arith, ap (λ (b : List Block). length (data_bytes Two b)) (append-nil it.closed))
     by (entry ∷ others) =
         length-data_push it.closed (block_from entry others)
-        ∙ ap (λ (l : List Entry). length (data_bytes it.closed) + length (block_part l))
+        ∙ ap (λ (l : List Entry). length (data_bytes Two it.closed) + length (block_part Two l))
         (block_from_entries entry others)
 
 open_size_push : (entries : List Entry) (entry : Entry)
-    → open_size (entries ++ entry ∷ []) ≡ length (block_part (entries ++ entry ∷ []))
+    → open_size (entries ++ entry ∷ []) ≡ length (block_part Two (entries ++ entry ∷ []))
 open_size_push [] entry = refl
 open_size_push (x ∷ entries) entry = refl
 
 -- whether or not the entry closes its block, the size is that of both
 size_by : (it : Division) (entry : Entry) (b : Bool)
-    → length (data_bytes (finished_blocks (cond b
+    → length (data_bytes Two (finished_blocks (cond b
     (record { closed = it.closed ++ record { front = it.opened; last = entry } ∷ []; opened = [] })
     (record { closed = it.closed; opened = it.opened ++ entry ∷ [] }))))
-    ≡ length (data_bytes it.closed) + length (block_part (it.opened ++ entry ∷ []))
+    ≡ length (data_bytes Two it.closed) + length (block_part Two (it.opened ++ entry ∷ []))
 size_by it entry true =
     let one : Block = record { front = it.opened; last = entry } in
-    ap (λ (b : List Block). length (data_bytes b)) (append-nil (it.closed ++ one ∷ []))
+    ap (λ (b : List Block). length (data_bytes Two b)) (append-nil (it.closed ++ one ∷ []))
     ∙ length-data_push it.closed one
 size_by it entry false =
     length-finished (record { closed = it.closed; opened = it.opened ++ entry ∷ [] })
-    ∙ ap (λ (n : ℕ). length (data_bytes it.closed) + n) (open_size_push it.opened entry)
+    ∙ ap (λ (n : ℕ). length (data_bytes Two it.closed) + n) (open_size_push it.opened entry)
 
 pub size_push : (entries : List Entry) (entry : Entry) → data_size (entries ++ entry ∷ [])
-    ≡ length (data_bytes (division entries).closed)
-    + length (block_part ((division entries).opened ++ entry ∷ []))
+    ≡ length (data_bytes Two (division entries).closed)
+    + length (block_part Two ((division entries).opened ++ entry ∷ []))
 size_push entries entry =
     let it = division entries in
-    ap (λ (parts : Division). length (data_bytes (finished_blocks parts)))
+    ap (λ (parts : Division). length (data_bytes Two (finished_blocks parts)))
     (division_push entries entry)
-    ∙ size_by it entry (leb BLOCK_SIZE (length (block_content (it.opened ++ entry ∷ []))))
+    ∙ size_by it entry (leb BLOCK_SIZE (length (block_content Two (it.opened ++ entry ∷ []))))
 
 -- the entry closes its block, or does not
 pub with_entry_full : (it : Division) (entry : Entry)
-    → BLOCK_SIZE ≤ length (block_content (it.opened ++ entry ∷ [])) → with_entry it entry
+    → BLOCK_SIZE ≤ length (block_content Two (it.opened ++ entry ∷ [])) → with_entry it entry
     ≡ record { closed = it.closed ++ record { front = it.opened; last = entry } ∷ []; opened = [] }
 with_entry_full it entry full =
     ap (λ (b : Bool). cond b
@@ -115,29 +116,31 @@ with_entry_full it entry full =
 -- ---- lines of an index
 
 pub lines_push : (place : ℕ) (blocks : List Block) (one : Block)
-    → block_lines place (blocks ++ one ∷ [])
-    ≡ block_lines place blocks ++ block_line (place + length (data_bytes blocks)) one ∷ []
+    → block_lines Two place (blocks ++ one ∷ [])
+    ≡ block_lines Two place blocks ++ block_line Two (place + length (data_bytes Two blocks)) one ∷
+    []
 lines_push place [] one =
-    let here : place + length (data_bytes []) ≡ place = omega arith in
-    ap (λ (p : ℕ). block_line p one ∷ []) (sym here)
+    let here : place + length (data_bytes Two []) ≡ place = omega arith in
+    ap (λ (p : ℕ). block_line Two p one ∷ []) (sym here)
 lines_push place (first ∷ blocks) one =
-    let below = lines_push (place + length (block_bytes first)) blocks one in
-    let there : place + length (block_bytes first) + length (data_bytes blocks)
-    ≡ place + length (data_bytes (first ∷ blocks)) =
+    let below = lines_push (place + length (block_bytes Two first)) blocks one in
+    let there : place + length (block_bytes Two first) + length (data_bytes Two blocks)
+    ≡ place + length (data_bytes Two (first ∷ blocks)) =
     omega (
       arith,
-      ap length (flat_map-cons block_bytes first blocks),
-      length-append (block_bytes first) (data_bytes blocks),
+      ap length (flat_map-cons (block_bytes Two) first blocks),
+      length-append (block_bytes Two first) (data_bytes Two blocks),
     ) in
-    ap (λ (ls : List IndexLine). block_line place first ∷ ls) below
-    ∙ ap (λ (p : ℕ). block_line place first
-    ∷ (block_lines (place + length (block_bytes first)) blocks ++ block_line p one ∷ [])) there
+    ap (λ (ls : List IndexLine). block_line Two place first ∷ ls) below
+    ∙ ap (λ (p : ℕ). block_line Two place first
+    ∷ (block_lines Two (place + length (block_bytes Two first)) blocks
+    ++ block_line Two p one ∷ [])) there
 
 pub length-lines : (place : ℕ) (blocks : List Block)
-    → length (block_lines place blocks) ≡ length blocks
+    → length (block_lines Two place blocks) ≡ length blocks
 length-lines place [] = refl
 length-lines place (first ∷ blocks) =
-    ap suc (length-lines (place + length (block_bytes first)) blocks)
+    ap suc (length-lines (place + length (block_bytes Two first)) blocks)
 
 -- ---- sizes
 
@@ -147,7 +150,7 @@ change_short (Some value) short =
     omega (arith, short, length-append (to_be_bytes w16 (length value)) value)
 change_short None short = omega arith
 
-pub entry_short : (entry : Entry) → IsTableEntry entry → length (entry_bytes entry) ≤ 17422
+pub entry_short : (entry : Entry) → IsTableEntry entry → length (entry_bytes Two entry) ≤ 17422
 entry_short entry is =
     let change = change_short entry.value is.value in
     let key = key_bytes-short entry.key is.key in
@@ -160,36 +163,36 @@ entry_short entry is =
     )
 
 pub length-entries_push : (entries : List Entry) (entry : Entry)
-    → length (flat_map entry_bytes (entries ++ entry ∷ []))
-    ≡ length (flat_map entry_bytes entries) + length (entry_bytes entry)
+    → length (flat_map (entry_bytes Two) (entries ++ entry ∷ []))
+    ≡ length (flat_map (entry_bytes Two) entries) + length (entry_bytes Two entry)
 length-entries_push entries entry =
-    ap length (flat_push entry_bytes entries entry)
-    ∙ length-append (flat_map entry_bytes entries) (entry_bytes entry)
+    ap length (flat_push (entry_bytes Two) entries entry)
+    ∙ length-append (flat_map (entry_bytes Two) entries) (entry_bytes Two entry)
 
 -- entries in some bytes are few
 pub entries_long : (entries : List Entry)
-    → 9 * length entries ≤ length (flat_map entry_bytes entries)
+    → 9 * length entries ≤ length (flat_map (entry_bytes Two) entries)
 entries_long [] = omega arith
 entries_long (entry ∷ entries) =
     omega (
       arith,
-      entry_long entry,
+      entry_long Two entry,
       entries_long entries,
-      ap length (flat_map-cons entry_bytes entry entries),
-      length-append (entry_bytes entry) (flat_map entry_bytes entries),
+      ap length (flat_map-cons (entry_bytes Two) entry entries),
+      length-append (entry_bytes Two entry) (flat_map (entry_bytes Two) entries),
     )
 
 pub data_long : (blocks : List Block)
-    → 9 * length (entries_of_blocks blocks) ≤ length (data_bytes blocks)
+    → 9 * length (entries_of_blocks blocks) ≤ length (data_bytes Two blocks)
 data_long [] = omega arith
 data_long (block ∷ blocks) =
     omega (
       arith,
       data_long blocks,
       entries_long (block_entries block),
-      length-block_part (block_entries block),
-      ap length (flat_map-cons block_bytes block blocks),
-      length-append (block_bytes block) (data_bytes blocks),
+      length-block_part Two (block_entries block),
+      ap length (flat_map-cons (block_bytes Two) block blocks),
+      length-append (block_bytes Two block) (data_bytes Two blocks),
       ap length (flat_map-cons block_entries block blocks),
       length-append (block_entries block) (entries_of_blocks blocks),
     )
@@ -197,33 +200,33 @@ data_long (block ∷ blocks) =
 -- The entries of a division. Its closed blocks are not short, and none is long.
 pub record IsFine (it : Division) (entries : List Entry) : Type 0 where
   pub all : entries_of_blocks it.closed ++ it.opened ≡ entries
-  pub small : AllByRecursion IsShortBlock it.closed
-  pub long : 4104 * length it.closed ≤ length (data_bytes it.closed)
-  pub short : length (block_content it.opened) < BLOCK_SIZE
+  pub small : AllByRecursion (IsShortBlock Two) it.closed
+  pub long : 4104 * length it.closed ≤ length (data_bytes Two it.closed)
+  pub short : length (block_content Two it.opened) < BLOCK_SIZE
 
 -- the open block with one entry more fits its fields
 pub opened_small : (opened : List Entry) (entry : Entry)
-    → length (block_content opened) < BLOCK_SIZE → IsTableEntry entry
-    → length (block_part (opened ++ entry ∷ [])) < 21536
+    → length (block_content Two opened) < BLOCK_SIZE → IsTableEntry entry
+    → length (block_part Two (opened ++ entry ∷ [])) < 21536
 opened_small opened entry short is =
     omega (
       arith,
       short,
       entry_short entry is,
-      length-block_content opened,
+      length-block_content Two opened,
       length-entries_push opened entry,
-      length-block_part (opened ++ entry ∷ []),
+      length-block_part Two (opened ++ entry ∷ []),
     )
 
 fine_by : (it : Division) (entries : List Entry) (entry : Entry) (b : Bool)
-    → leb BLOCK_SIZE (length (block_content (it.opened ++ entry ∷ []))) ≡ b → IsFine it entries
+    → leb BLOCK_SIZE (length (block_content Two (it.opened ++ entry ∷ []))) ≡ b → IsFine it entries
     → IsTableEntry entry → IsFine (cond b
     (record { closed = it.closed ++ record { front = it.opened; last = entry } ∷ []; opened = [] })
     (record { closed = it.closed; opened = it.opened ++ entry ∷ [] })) (entries ++ entry ∷ [])
 fine_by it entries entry true test f is =
     let one : Block = record { front = it.opened; last = entry } in
-    let full = leb-true BLOCK_SIZE (length (block_content (block_entries one))) test in
-    let small : length (block_part (block_entries one)) < 21536 =
+    let full = leb-true BLOCK_SIZE (length (block_content Two (block_entries one))) test in
+    let small : length (block_part Two (block_entries one)) < 21536 =
     opened_small it.opened entry f.short is in
     let long = f.long in
     record {
@@ -231,14 +234,14 @@ fine_by it entries entry true test f is =
           ∙ entries_of_push it.closed one
           ∙ sym (append_assoc (entries_of_blocks it.closed) it.opened (entry ∷ []))
           ∙ ap (λ (r : List Entry). r ++ entry ∷ []) f.all;
-      small = all_push IsShortBlock it.closed one f.small (omega (arith, small));
+      small = all_push (IsShortBlock Two) it.closed one f.small (omega (arith, small));
       long = omega (
         arith,
         full,
         long,
         length-data_push it.closed one,
-        length-block_part (block_entries one),
-        length-block_content (block_entries one),
+        length-block_part Two (block_entries one),
+        length-block_content Two (block_entries one),
         length-append it.closed (one ∷ []),
       );
       short = omega arith;
@@ -249,7 +252,7 @@ fine_by it entries entry false test f is =
           ∙ ap (λ (r : List Entry). r ++ entry ∷ []) f.all;
       small = f.small;
       long = f.long;
-      short = leb-false BLOCK_SIZE (length (block_content (it.opened ++ entry ∷ []))) test;
+      short = leb-false BLOCK_SIZE (length (block_content Two (it.opened ++ entry ∷ []))) test;
     }
 
 fine_entries : (it : Division) (done entries : List Entry) → IsFine it done
@@ -258,7 +261,7 @@ fine_entries it done [] f each = subst (IsFine it) (sym (append-nil done)) f
 fine_entries it done (entry ∷ entries) f each =
     subst (IsFine (with_entries it (entry ∷ entries))) (append_assoc done (entry ∷ []) entries)
     (fine_entries (with_entry it entry) (done ++ entry ∷ []) entries
-    (fine_by it done entry (leb BLOCK_SIZE (length (block_content (it.opened ++ entry ∷ []))))
+    (fine_by it done entry (leb BLOCK_SIZE (length (block_content Two (it.opened ++ entry ∷ []))))
     refl f each.0) each.1)
 
 pub division_fine : (entries : List Entry) → AllByRecursion IsTableEntry entries

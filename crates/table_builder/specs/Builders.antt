@@ -6,9 +6,10 @@ use Rattle.kv_types.specs.{Entry}
 use Rattle.table_format.specs.declared.sizes.TheConstants.{BLOCK_SIZE, MAX_DATA}
 use Rattle.table_format.specs.declared.TableError.{TableError}
 use Rattle.table_format.specs.declared.TableError.TheVariants as table
-use Rattle.table_format.specs.{AreRising, Block, CanFollow, IsTableEntry, TableRepresents}
+use Rattle.table_format.specs.{AreRising, Block, CanFollow, IsTableEntry, TableRepresentsIn}
 use Rattle.table_format.specs.{block_content, block_lines, data_bytes, entry_bytes, last_entry}
 use Rattle.table_format.specs.{line_bytes}
+use Rattle.byte_fields.specs.declared.format.Format.TheVariants.{Two}
 use Rattle.table_builder.specs.declared.builder.Builder.{Builder}
 use Rattle.table_builder.specs.declared.builder.Finished.{Finished}
 use Rattle.table_builder.specs.Divisions.{Division, data_size, division, finished_blocks}
@@ -32,13 +33,13 @@ entry_count it = it.keys.count
 
 -- these blocks are closed: their bytes are counted, and the index has their lines
 pub record HoldsBlocks (it : Builder) (blocks : List Block) : Type 0 where
-  pub written : it.written ≡ length (data_bytes blocks)
-  pub index : HoldsItems line_bytes it.index (block_lines 0 blocks)
+  pub written : it.written ≡ length (data_bytes Two blocks)
+  pub index : HoldsItems (line_bytes Two) it.index (block_lines Two 0 blocks)
 
 -- these blocks are closed, and the others' entries are in the buffer
 pub record HoldsDivision (it : Builder) (parts : Division) : Type 0 where
   pub closed : HoldsBlocks it parts.closed
-  pub block : HoldsItems entry_bytes it.block parts.opened
+  pub block : HoldsItems (entry_bytes Two) it.block parts.opened
 
 -- the builder has these entries
 pub record HoldsEntries (it : Builder) (entries : List Entry) : Type 0 where
@@ -52,7 +53,7 @@ pub record HoldsEntries (it : Builder) (entries : List Entry) : Type 0 where
 -- These entries were added to the builder, and its file has the blocks that are closed.
 pub record Builds (slot : Slot) (it : Builder) (entries : List Entry) : Type 0 where
   pub holds : HoldsEntries it entries
-  pub file : IsFresh slot (data_bytes (division entries).closed)
+  pub file : IsFresh slot (data_bytes Two (division entries).closed)
 
 -- no entries are those of the builder: a call of it has failed
 abbrev pub BuildsNothing : Builder → Type 0
@@ -82,7 +83,7 @@ HeldRefusal e entries entry = AddRefusal e entries entry
 
 -- these entries fill no block
 abbrev pub IsPartOfBlock : List Entry → Type 0
-IsPartOfBlock entries = length (block_content entries) < BLOCK_SIZE
+IsPartOfBlock entries = length (block_content Two entries) < BLOCK_SIZE
 
 -- the block that is open behind these entries is open behind this one too
 abbrev pub LeavesBlockOpen : List Entry → Entry → Type 0
@@ -129,11 +130,11 @@ AddStatus (Err table.Failed) old new untouched = HasBuilderFailed old × (new �
 
 -- ---- the answers of `finish`
 
--- The file reads as bytes that represent the entries, and a crash leaves it so.
+-- The file reads as bytes that represent the entries in format 2, and a crash leaves it so.
 pub record HoldsTable (slot : Slot) (entries : List Entry) : Type 0 where
   pub bytes : List ℕ
   pub durable : slot ≡ Kept bytes bytes []
-  pub represents : TableRepresents bytes entries
+  pub represents : TableRepresentsIn Two bytes entries
 
 -- The table of these entries is in the file, in the blocks of their division, with this length and
 -- these ends.

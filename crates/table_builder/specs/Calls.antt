@@ -10,6 +10,7 @@ use Rattle.table_format.specs.declared.FileError.TheVariants as reading
 use Rattle.table_format.specs.declared.TableError.TheVariants as table
 use Rattle.table_format.specs.declared.TableError.{TableError}
 use Rattle.table_format.specs.{Block, data_bytes}
+use Rattle.byte_fields.specs.declared.format.Format.TheVariants.{Two}
 use Rattle.table_builder.specs.declared.builder.Builder.{Builder}
 use Rattle.table_builder.specs.declared.builder.Finished.{Finished}
 use Rattle.table_builder.specs.Builders.{AddOutcome, AddStatus, Builds, BuildsNothing}
@@ -34,8 +35,8 @@ module _ {D : Type 0} (g : Ghosts D) where
   abbrev pub WritesBlocks : {T : Type 0} → (file : ℕ) (before after : List Block) (old new : D)
       → Result T FileError → Type 0
   WritesBlocks file before after old new result =
-      g.is_honest old → IsFresh (g.state old file) (data_bytes before) →
-      MatchResult result (λ _. IsFresh (g.state new file) (data_bytes after))
+      g.is_honest old → IsFresh (g.state old file) (data_bytes Two before) →
+      MatchResult result (λ _. IsFresh (g.state new file) (data_bytes Two after))
       (IsEnvironmental reading.Disk reading.Memory)
 
   -- an entry was added to a builder, or refused

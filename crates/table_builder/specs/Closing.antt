@@ -8,6 +8,7 @@ use Rattle.table_format.specs.declared.sizes.TheConstants.{MAX_DATA}
 use Rattle.table_format.specs.{AreRising, Block, IsTableEntry}
 use Rattle.table_format.specs.{block_bytes, block_entries, data_bytes}
 use Rattle.table_format.specs.{block_lines, entries_of_blocks, entry_bytes, line_bytes}
+use Rattle.byte_fields.specs.declared.format.Format.TheVariants.{Two}
 use Rattle.table_builder.specs.declared.builder.Builder.{Builder}
 use Rattle.table_builder.specs.Builders.{HasBuilderFailed, HoldsBlocks}
 use Rattle.table_builder.specs.Divisions.{division, finished_blocks}
@@ -31,22 +32,22 @@ CheckStatus (Err table.Failed) it = HasBuilderFailed it
 -- the open block and its last key are those of one more block, which fits its line
 pub record CanClose (it : Builder) (blocks : List Block) (one : Block) : Type 0 where
   pub closed : HoldsBlocks it blocks
-  pub entries : HoldsItems entry_bytes it.block (block_entries one)
+  pub entries : HoldsItems (entry_bytes Two) it.block (block_entries one)
   pub key : it.keys.last ≡ one.last.key
   pub number : it.keys.number ≡ one.last.number
-  pub small : length (block_bytes one) < 2 ^ 32
+  pub small : length (block_bytes Two one) < 2 ^ 32
   pub few : length blocks + 1 < 2 ^ 32
-  pub room : length (data_bytes blocks) < 2 ^ 62
+  pub room : length (data_bytes Two blocks) < 2 ^ 62
 
 -- the buffer has the bytes of the block, and the index its line
 pub record HasSealed (it : Builder) (blocks : List Block) (one : Block) : Type 0 where
-  pub bytes : it.block.bytes.items ≡ block_bytes one
-  pub index : HoldsItems line_bytes it.index (block_lines 0 (blocks ++ one ∷ []))
+  pub bytes : it.block.bytes.items ≡ block_bytes Two one
+  pub index : HoldsItems (line_bytes Two) it.index (block_lines Two 0 (blocks ++ one ∷ []))
 
 -- the block is closed, and none is open
 pub record HasClosed (it : Builder) (blocks : List Block) (one : Block) : Type 0 where
   pub closed : HoldsBlocks it (blocks ++ one ∷ [])
-  pub empty : HoldsItems entry_bytes it.block []
+  pub empty : HoldsItems (entry_bytes Two) it.block []
 
 -- what closing a block leaves as it was
 pub record KeepsKeys (old new : Builder) : Type 0 where
@@ -66,6 +67,6 @@ pub record CanEnd (it : Builder) (blocks : List Block) (entries : List Entry) : 
   pub some : 1 ≤ length entries
   pub each : All IsTableEntry entries
   pub rising : AreRising entries
-  pub size : length (data_bytes blocks) ≤ MAX_DATA
-  pub small : All (λ block. length (block_bytes block) < 2 ^ 32) blocks
-  pub long : 4104 * length blocks ≤ length (data_bytes blocks) + 4104
+  pub size : length (data_bytes Two blocks) ≤ MAX_DATA
+  pub small : All (λ block. length (block_bytes Two block) < 2 ^ 32) blocks
+  pub long : 4104 * length blocks ≤ length (data_bytes Two blocks) + 4104

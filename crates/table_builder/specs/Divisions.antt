@@ -3,6 +3,7 @@ use Rattle.std.specs.Prelude.{ℕ, List, [], ◌∷◌, ◌++◌, length, nat_le
 use Rattle.kv_types.specs.{Entry}
 use Rattle.table_format.specs.declared.sizes.TheConstants.{BLOCK_SIZE}
 use Rattle.table_format.specs.{Block, block_content, data_bytes}
+use Rattle.byte_fields.specs.declared.format.Format.TheVariants.{Two}
 
 -- blocks that are closed, and the entries of the one that is not
 pub record Division : Type 0 where
@@ -12,7 +13,7 @@ pub record Division : Type 0 where
 -- one entry more; it closes its block if that has reached its size
 abbrev pub with_entry : Division → Entry → Division
 with_entry it entry =
-    if nat_le BLOCK_SIZE (length (block_content (it.opened ++ entry ∷ [])))
+    if nat_le BLOCK_SIZE (length (block_content Two (it.opened ++ entry ∷ [])))
     then record {
       closed = it.closed ++ record { front = it.opened; last = entry } ∷ [];
       opened = [];
@@ -47,4 +48,4 @@ finished_blocks it = it.closed ++ last_block it.opened
 
 -- the bytes of the blocks of these entries, if the table is finished behind them
 abbrev pub data_size : List Entry → ℕ
-data_size entries = length (data_bytes (finished_blocks (division entries)))
+data_size entries = length (data_bytes Two (finished_blocks (division entries)))

@@ -40,7 +40,8 @@ impl Builder {
     ghost use Rattle.disk.specs.{IsEnvironmental, Slot, WritesInto};
     ghost use Rattle.kv_types.specs.{Entry};
     ghost use Rattle.table_format.specs.declared.FileError.TheVariants.{Disk, Memory};
-    ghost use Rattle.table_format.specs.{Block, IsTableEntry, TableRepresents};
+    ghost use Rattle.byte_fields.specs.declared.format.Format.TheVariants.{Two};
+    ghost use Rattle.table_format.specs.{Block, IsTableEntry, TableRepresentsIn};
     ghost use Rattle.table_format.specs.{data_bytes, entry_bytes, lent_entry};
     ghost use Rattle.table_builder.specs.Builders.{AddRefusal, Builds, CanAdd, HoldsDivision};
     ghost use Rattle.table_builder.specs.Builders.{HoldsEntries, IsFinishedTable, IsPartOfBlock};
@@ -128,9 +129,9 @@ impl Builder {
         requires { IsTableEntry (lent_entry entry) }
         ensures same { (self.new.file ≡ self.old.file) × (self.new.written ≡ self.old.written)
             × (self.new.index ≡ self.old.index) × (self.new.has_failed ≡ self.old.has_failed) }
-        ensures block { (opened : List Entry) → HoldsItems entry_bytes self.old.block opened →
+        ensures block { (opened : List Entry) → HoldsItems (entry_bytes Two) self.old.block opened →
             length opened + 1 < 2 ^ 32 → OnOk result
-            (HoldsItems entry_bytes self.new.block (opened ++ lent_entry entry.entry ∷ [])) }
+            (HoldsItems (entry_bytes Two) self.new.block (opened ++ lent_entry entry.entry ∷ [])) }
         ensures keys { (entries : List Entry) → KnowsKeys self.old.keys entries →
             length entries + 1 < 2 ^ 64 → OnOk result
             (KnowsKeys self.new.keys (entries ++ lent_entry entry.entry ∷ [])) }
@@ -199,7 +200,7 @@ impl Builder {
             CanClose self.old parts.closed (record { front = parts.opened; last = entry }) →
             WritesBlocks D.Disk (builder_file self.old) parts.closed (with_entry parts entry).closed
             disk.old disk.new result }
-        ensures quiet { (opened : List Entry) → HoldsItems entry_bytes self.old.block opened →
+        ensures quiet { (opened : List Entry) → HoldsItems (entry_bytes Two) self.old.block opened →
             IsPartOfBlock opened → (disk.new ≡ disk.old) × IsOk result }
     {
         if self.block.len() < BLOCK_SIZE {
@@ -253,7 +254,7 @@ impl Builder {
         ensures tail { (blocks : List Block) (entries : List Entry)
             → CanEnd self.old blocks entries →
             IfOk result (λ tail.
-            ((holds : TableRepresents (data_bytes blocks ++ tail.items) entries)
+            ((holds : TableRepresentsIn Two (data_bytes Two blocks ++ tail.items) entries)
             × (holds.blocks ≡ blocks)) × (length tail.items < 2 ^ 40)) }
     {
         let filter = build_hashed(alloc, &self.keys.hashes)?;
@@ -269,7 +270,7 @@ impl Builder {
             ((blocks : List Block) (entries : List Entry) → CanEnd self blocks entries → ⊥) }
         ensures ended { (blocks : List Block) (entries : List Entry) → CanEnd self blocks entries →
             D.is_honest disk.old →
-            IsFresh (D.state disk.old (builder_file self)) (data_bytes blocks) →
+            IsFresh (D.state disk.old (builder_file self)) (data_bytes Two blocks) →
             MatchResult result (IsFinishedTable (D.state disk.new (builder_file self)) entries)
             (IsEnvironmental Disk Memory) }
     {

@@ -4,6 +4,7 @@ ghost use Rattle.std.specs.Prelude.{OnOk};
 ghost use Rattle.kv_types.specs.{Entry};
 ghost use Rattle.table_format.specs.{IsTableEntry, be32, block_content, entry_bytes, lent_entry};
 ghost use Rattle.table_format.specs.{line_bytes, sealed};
+ghost use Rattle.byte_fields.specs.declared.format.Format.TheVariants.{Two};
 ghost use Rattle.table_format.specs.declared.IndexLine.{IndexLine};
 
 use byte_fields::put_u32;
@@ -60,9 +61,10 @@ impl OpenPart {
     /// Adds an entry of a block.
     pub fn add_entry(&mut self, entry: LentEntry) -> Result<(), AllocError>
         requires { IsTableEntry (lent_entry entry) }
-        ensures { (entries : List Entry) → HoldsItems entry_bytes self.old entries →
+        ensures { (entries : List Entry) → HoldsItems (entry_bytes Two) self.old entries →
             length entries + 1 < 2 ^ 32 →
-            OnOk result (HoldsItems entry_bytes self.new (entries ++ lent_entry entry.entry ∷ [])) }
+            OnOk result (HoldsItems (entry_bytes Two) self.new
+            (entries ++ lent_entry entry.entry ∷ [])) }
     {
         self.begin()?;
         put_entry(&mut self.bytes, entry)?;
@@ -72,9 +74,9 @@ impl OpenPart {
 
     /// Adds a line of an index.
     pub fn add_line(&mut self, line: &IndexLine) -> Result<(), AllocError>
-        ensures { (lines : List IndexLine) → HoldsItems line_bytes self.old lines →
+        ensures { (lines : List IndexLine) → HoldsItems (line_bytes Two) self.old lines →
             length lines + 1 < 2 ^ 32 →
-            OnOk result (HoldsItems line_bytes self.new (lines ++ line.now ∷ [])) }
+            OnOk result (HoldsItems (line_bytes Two) self.new (lines ++ line.now ∷ [])) }
     {
         self.begin()?;
         put_line(&mut self.bytes, line)?;
@@ -84,8 +86,8 @@ impl OpenPart {
 
     /// The bytes of the part's content.
     pub fn len(&self) -> usize
-        ensures { (entries : List Entry) → HoldsItems entry_bytes self.now entries →
-            result ≡ length (block_content entries) }
+        ensures { (entries : List Entry) → HoldsItems (entry_bytes Two) self.now entries →
+            result ≡ length (block_content Two entries) }
     {
         if self.count == 0 {
             return COUNT_SIZE;

@@ -1,8 +1,9 @@
-//! What stands behind the blocks of a table: filter, index and footer.
+//! What stands behind the blocks of a table of format 2: filter, index and footer.
 ghost use Rattle.std.specs.Prelude.{◌≡◌, ◌+◌, ◌<◌, ◌^◌, length, IfOk};
 ghost use Rattle.table_format.specs.{filter_part};
 ghost use Rattle.table_builder.specs.Tails.{tail_of};
 
+use byte_fields::Format;
 use std::alloc::{AllocError, Global};
 use table_format::{Footer, filter_part_of, footer_part_of};
 
@@ -32,6 +33,7 @@ pub fn tail_part_of(
         filter: place,
         filter_len: short_len(tail.len()),
         entries,
+        format: Format::Two,
     };
     let footer_part = footer_part_of(alloc, footer)?;
     tail.extend_from_slice(index)?;

@@ -12,6 +12,7 @@ use Rattle.std.specs.Map.{lookup}
 use Rattle.std.specs.Rc.{rc_slice_items}
 use Rattle.lru.specs.LruCache.{LruCache, lru_cache, put_entries, promoted}
 use Rattle.lru.proofs.CallerLemmas.{Contains-lookup, Contains-promoted, Contains-put_entries}
+use Rattle.byte_fields.specs.declared.format.Format.{Format}
 use Rattle.table_files.specs.declared.block.CheckedBlock.{CheckedBlock}
 use Rattle.table_files.specs.Kept.{NumberedBlocks, NumbersDiffer, NumbersAreBelow, IsKeptBlock}
 
@@ -56,32 +57,36 @@ removed old new file updates = λ other number e.
 
 -- a block under a number that stayed
 pub fewer_numbers : (old new : BTreeMap ℕ ℕ) (blocks : NumberedBlocks) (file place : ℕ)
-    (bytes : List ℕ) → NumbersStay old new → IsKeptBlock new blocks file place bytes
-    → IsKeptBlock old blocks file place bytes
-fewer_numbers old new blocks file place bytes stay k = record {
+    (format : Format) (bytes : List ℕ) → NumbersStay old new
+    → IsKeptBlock new blocks file place format bytes
+    → IsKeptBlock old blocks file place format bytes
+fewer_numbers old new blocks file place format bytes stay k = record {
   number = k.number;
   block = k.block;
   known = stay file k.number k.known;
   kept = k.kept;
+  read_in = k.read_in;
   spelled = k.spelled;
 }
 
 -- the file itself has none left
 pub none_left : (old new : BTreeMap ℕ ℕ) (blocks : NumberedBlocks) (file place : ℕ)
-    (bytes : List ℕ) → Updates nat_cmp old new file None
-    → IsKeptBlock new blocks file place bytes → ⊥
-none_left old new blocks file place bytes updates k =
+    (format : Format) (bytes : List ℕ) → Updates nat_cmp old new file None
+    → IsKeptBlock new blocks file place format bytes → ⊥
+none_left old new blocks file place format bytes updates k =
     let none : None ≡ Some k.number = sym updates.1 ∙ k.known in cc
 
 -- a block that is moved to the front
 pub promoted_kept : (numbers : BTreeMap ℕ ℕ) (blocks : NumberedBlocks) (test : ℕ × ℕ → Bool)
-    (file place : ℕ) (bytes : List ℕ) → IsKeptBlock numbers (promoted test blocks) file place bytes
-    → IsKeptBlock numbers blocks file place bytes
-promoted_kept numbers blocks test file place bytes k = record {
+    (file place : ℕ) (format : Format) (bytes : List ℕ)
+    → IsKeptBlock numbers (promoted test blocks) file place format bytes
+    → IsKeptBlock numbers blocks file place format bytes
+promoted_kept numbers blocks test file place format bytes k = record {
   number = k.number;
   block = k.block;
   known = k.known;
   kept = Contains-promoted test blocks ((k.number, place), k.block) k.kept;
+  read_in = k.read_in;
   spelled = k.spelled;
 }
 
@@ -96,17 +101,18 @@ promoted_below numbers blocks test next below = (
 
 -- a block that is found
 pub found_kept : (numbers : BTreeMap ℕ ℕ) (blocks : NumberedBlocks) (file number place : ℕ)
-    (block copy : CheckedBlock) → get nat_cmp numbers file ≡ Some number
+    (format : Format) (block copy : CheckedBlock) → get nat_cmp numbers file ≡ Some number
     → lookup (is_key (number, place)) blocks ≡ Some block
-    → rc_slice_items copy.bytes ≡ rc_slice_items block.bytes
-    → IsKeptBlock numbers blocks file place (rc_slice_items copy.bytes)
-found_kept numbers blocks file number place block copy known found same =
+    → block.format ≡ format → rc_slice_items copy.bytes ≡ rc_slice_items block.bytes
+    → IsKeptBlock numbers blocks file place format (rc_slice_items copy.bytes)
+found_kept numbers blocks file number place format block copy known found read_in same =
     let h = Contains-lookup (is_key (number, place)) blocks block found in
     record {
       number = number;
       block = block;
       known = known;
       kept = subst (λ (k : ℕ × ℕ). Contains blocks (k, block)) (same_key number place h.0 h.2) h.1;
+      read_in = read_in;
       spelled = sym same;
     }
 
@@ -153,9 +159,9 @@ added_below old new blocks file next updates below above is = (
 -- no block has the new number
 pub added_kept : (old new : BTreeMap ℕ ℕ) (blocks : NumberedBlocks) (file next : ℕ)
     → Updates nat_cmp old new file (Some next) → NumbersAreBelow old blocks next
-    → (f p : ℕ) (bytes : List ℕ) → IsKeptBlock new blocks f p bytes
-    → IsKeptBlock old blocks f p bytes
-added_kept old new blocks file next updates below f p bytes k =
+    → (f p : ℕ) (format : Format) (bytes : List ℕ) → IsKeptBlock new blocks f p format bytes
+    → IsKeptBlock old blocks f p format bytes
+added_kept old new blocks file next updates below f p format bytes k =
     elim (added old new file next updates f k.number k.known) [
       | inl x ↦ absurd (omega (arith, below.1 k.number p k.block k.kept, x.1))
       | inr x ↦ record {
@@ -163,6 +169,7 @@ added_kept old new blocks file next updates below f p bytes k =
         block = k.block;
         known = x;
         kept = k.kept;
+        read_in = k.read_in;
         spelled = k.spelled;
       }
     ]
@@ -227,22 +234,25 @@ module _ {X E : Type 0} (numbers : BTreeMap ℕ ℕ) (was now : Blocks) (result 
       ],
     )
 
-    pub put_kept : NumbersDiffer numbers → (f p : ℕ) (bytes : List ℕ)
-        → IsKeptBlock numbers now.entries f p bytes
-        → IsKeptBlock numbers was.entries f p bytes
-        ⊎ ((f ≡ file) × (p ≡ place) × (bytes ≡ rc_slice_items put.bytes))
-    put_kept differ f p bytes k =
+    pub put_kept : NumbersDiffer numbers → (f p : ℕ) (format : Format) (bytes : List ℕ)
+        → IsKeptBlock numbers now.entries f p format bytes
+        → IsKeptBlock numbers was.entries f p format bytes
+        ⊎ ((f ≡ file) × (p ≡ place) × (format ≡ put.format)
+        × (bytes ≡ rc_slice_items put.bytes))
+    put_kept differ f p format bytes k =
         elim (old_or_put was now result number place put puts k.number p k.block k.kept) [
           | inl old ↦ inl (record {
             number = k.number;
             block = k.block;
             known = k.known;
             kept = old;
+            read_in = k.read_in;
             spelled = k.spelled;
           })
           | inr new ↦ inr (
             differ f file number (k.known ∙ ap Some new.0) known,
             new.1,
+            sym k.read_in ∙ ap (λ (b : CheckedBlock). b.format) new.2,
             sym k.spelled ∙ ap (λ (b : CheckedBlock). rc_slice_items b.bytes) new.2,
           )
         ]

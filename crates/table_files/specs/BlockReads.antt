@@ -8,6 +8,7 @@ use Rattle.std.specs.Rc.{rc_slice_items}
 use Rattle.disk.specs.{IsEnvironmental, State, seen}
 use Rattle.kv_types.specs.{Entry}
 use Rattle.table_format.specs.{IsBlock, IsCheckedBlock}
+use Rattle.byte_fields.specs.declared.format.Format.{Format}
 use Rattle.table_format.specs.declared.FileError.{FileError}
 use Rattle.table_format.specs.declared.FileError.TheVariants as reading
 use Rattle.table_files.specs.declared.block.CheckedBlock.{CheckedBlock}
@@ -19,36 +20,38 @@ abbrev pub IsPartAt : Option (List ℕ) → ℕ → List ℕ → Type 0
 IsPartAt file place part =
     option_map (λ bytes. take (length part) (drop place bytes)) file ≡ Some part
 
--- the file has the part at the place, and the part is a block of some entries
-abbrev pub IsBlockAt : State → ℕ → ℕ → List ℕ → Type 0
-IsBlockAt disk file place part =
-    IsPartAt (seen (disk file)) place part × ∥ IsCheckedBlock part ∥₁
+-- the file has the part at the place, and the part is a block of some entries in the format
+abbrev pub IsBlockAt : State → ℕ → ℕ → Format → List ℕ → Type 0
+IsBlockAt disk file place format part =
+    IsPartAt (seen (disk file)) place part × ∥ IsCheckedBlock format part ∥₁
 
 -- each block of the cache is one that its file has
 abbrev pub AreBlocksAt : State → BlockCache → Type 0
-AreBlocksAt disk cache = (file place : ℕ) (part : List ℕ) → CacheHolds cache file place part
-    → IsBlockAt disk file place part
+AreBlocksAt disk cache =
+    (file place : ℕ) (format : Format) (part : List ℕ) → CacheHolds cache file place format part
+    → IsBlockAt disk file place format part
 
--- The answers of a read of a block of this length: the block that the file has there, or `Damaged`
--- where it has none.
-abbrev pub BlockAnswer : State → ℕ → ℕ → ℕ → Result CheckedBlock FileError → Type 0
-BlockAnswer disk file place len (Ok block) =
+-- The answers of a read of a block of this length in the format: the block that the file has there,
+-- or `Damaged` where it has none.
+abbrev pub BlockAnswer : State → ℕ → ℕ → ℕ → Format → Result CheckedBlock FileError → Type 0
+BlockAnswer disk file place len format (Ok block) =
     (length (rc_slice_items block.bytes) ≡ len)
-    × IsBlockAt disk file place (rc_slice_items block.bytes)
-BlockAnswer disk file place len (Err reading.Damaged) =
-    (part : List ℕ) → length part ≡ len → IsBlockAt disk file place part → ⊥
-BlockAnswer disk file place len (Err reading.Disk) = Unit {0}
-BlockAnswer disk file place len (Err reading.Memory) = Unit {0}
+    × IsBlockAt disk file place format (rc_slice_items block.bytes)
+    × (block.format ≡ format)
+BlockAnswer disk file place len format (Err reading.Damaged) =
+    (part : List ℕ) → length part ≡ len → IsBlockAt disk file place format part → ⊥
+BlockAnswer disk file place len format (Err reading.Disk) = Unit {0}
+BlockAnswer disk file place len format (Err reading.Memory) = Unit {0}
 
 -- ---- files whose bytes are known
 
--- The file has these bytes, and so many of them from the place on are a block: the answer is that
--- block, but for the device and want of memory.
+-- The file has these bytes, and so many of them from the place on are a block in the format: the
+-- answer is that block, but for the device and want of memory.
 abbrev pub KnownBlocksAreAnswered : Type 0
-KnownBlocksAreAnswered = (disk : State) (file place len : ℕ)
+KnownBlocksAreAnswered = (disk : State) (file place len : ℕ) (format : Format)
     (result : Result CheckedBlock FileError) (bytes : List ℕ) (entries : List Entry) →
-    BlockAnswer disk file place len result → seen (disk file) ≡ Some bytes →
-    place + len ≤ length bytes → IsBlock (take len (drop place bytes)) entries →
+    BlockAnswer disk file place len format result → seen (disk file) ≡ Some bytes →
+    place + len ≤ length bytes → IsBlock format (take len (drop place bytes)) entries →
     MatchResult result (λ block. rc_slice_items block.bytes ≡ take len (drop place bytes))
     (IsEnvironmental reading.Disk reading.Memory)
 
@@ -70,15 +73,18 @@ is_part file bytes place len is size =
 
 -- a block that is known to read is answered, or the device or memory refuses it
 pub known_block_answered : KnownBlocksAreAnswered
-known_block_answered disk file place len (Ok block) bytes entries answer is within known =
+known_block_answered disk file place len format (Ok block) bytes entries answer is within known =
     part_of (seen (disk file)) bytes (rc_slice_items block.bytes) place len is answer.0 answer.1.0
-known_block_answered disk file place len (Err reading.Damaged) bytes entries answer is within known
+known_block_answered disk file place len format (Err reading.Damaged) bytes entries answer is within
+    known
     =
     let size : length (take len (drop place bytes)) ≡ len =
     omega (arith, within, length-take len (drop place bytes), length-drop place bytes) in
     absurd (answer (take len (drop place bytes)) size
     (is_part (seen (disk file)) bytes place len is size, ∣ (entries, known) ∣₁))
-known_block_answered disk file place len (Err reading.Disk) bytes entries answer is within known =
+known_block_answered disk file place len format (Err reading.Disk) bytes entries answer is within
+    known =
     inl refl
-known_block_answered disk file place len (Err reading.Memory) bytes entries answer is within known =
+known_block_answered disk file place len format (Err reading.Memory) bytes entries answer is within
+    known =
     inr refl

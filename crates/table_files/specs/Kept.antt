@@ -3,6 +3,7 @@ use Rattle.std.specs.Prelude.{◌≡◌, ℕ, ◌<◌, List, Some, Contains}
 use Rattle.std.specs.Ordering.{nat_cmp}
 use Rattle.std.specs.BTreeMap.{BTreeMap, get}
 use Rattle.std.specs.Rc.{rc_slice_items}
+use Rattle.byte_fields.specs.declared.format.Format.{Format}
 use Rattle.table_files.specs.declared.block.CheckedBlock.{CheckedBlock}
 
 -- blocks by the number of their file in a cache and by their place
@@ -21,11 +22,12 @@ NumbersAreBelow numbers blocks next =
     × ((number place : ℕ) (block : CheckedBlock) → Contains blocks ((number, place), block)
     → number < next)
 
--- the bytes of a block that is kept under the file's number and the place
+-- format and bytes of a block that is kept under the file's number and the place
 pub record IsKeptBlock (numbers : BTreeMap ℕ ℕ) (blocks : NumberedBlocks) (file place : ℕ)
-    (bytes : List ℕ) : Type 0 where
+    (format : Format) (bytes : List ℕ) : Type 0 where
   pub number : ℕ
   pub block : CheckedBlock
   pub known : get nat_cmp numbers file ≡ Some number
   pub kept : Contains blocks ((number, place), block)
+  pub read_in : block.format ≡ format
   pub spelled : rc_slice_items block.bytes ≡ bytes

@@ -6,6 +6,7 @@ ghost use Rattle.std.specs.Rc.{rc_slice_items};
 ghost use Rattle.table_files.specs.Kept.{NumbersDiffer, NumbersAreBelow};
 
 use crate::block::CheckedBlock;
+use byte_fields::Format;
 use lru::LruCache;
 use std::alloc::{AllocError, Global};
 use std::collections::BTreeMap;
@@ -29,11 +30,12 @@ pub struct BlockCache {
 
 impl BlockCache {
     ghost use Rattle.table_files.specs.Caches.{CacheHolds, AddsNoBlock};
+    ghost use Rattle.byte_fields.specs.declared.format.Format.{Format};
 
     /// A cache without blocks, for at most so many.
     pub fn new(alloc: Global, capacity: NonZeroUsize) -> Result<BlockCache, AllocError>
-        ensures { IfOk result (λ cache. (file place : ℕ) (bytes : List ℕ) →
-            CacheHolds cache file place bytes → ⊥) }
+        ensures { IfOk result (λ cache. (file place : ℕ) (format : Format) (bytes : List ℕ) →
+            CacheHolds cache file place format bytes → ⊥) }
     {
         Ok(BlockCache {
             numbers: BTreeMap::new(alloc),
@@ -42,10 +44,16 @@ impl BlockCache {
         })
     }
 
-    /// The block that is kept for a place of the file.
-    pub fn get(&mut self, file: u64, place: u64) -> Result<Option<CheckedBlock>, AllocError>
+    /// The block of the format that is kept for a place of the file.
+    pub fn get(
+        &mut self,
+        file: u64,
+        place: u64,
+        format: Format,
+    ) -> Result<Option<CheckedBlock>, AllocError>
         ensures found { IfOk result (λ found. IfSome found (λ block.
-            CacheHolds self.old file place (rc_slice_items block.bytes))) }
+            CacheHolds self.old file place format (rc_slice_items block.bytes))) }
+        ensures format { IfOk result (λ found. IfSome found (λ block. block.format ≡ format)) }
         ensures keeps { AddsNoBlock self.old self.new }
     {
         let Some(number) = self.numbers.get(&file) else {
@@ -55,6 +63,9 @@ impl BlockCache {
         let Some(block) = self.blocks.peek(&key) else {
             return Ok(None);
         };
+        if !block.format.is_same(format) {
+            return Ok(None);
+        }
         let found = block.clone()?;
         self.blocks.promote(&key);
         Ok(Some(found))
@@ -79,9 +90,10 @@ impl BlockCache {
 
     /// Keeps a block for a place of the file, where there is memory for it.
     pub fn keep(&mut self, file: u64, place: u64, block: &CheckedBlock)
-        ensures { (f p : ℕ) (bytes : List ℕ) → CacheHolds self.new f p bytes →
-            CacheHolds self.old f p bytes
-            ⊎ ((f ≡ file) × (p ≡ place) × (bytes ≡ rc_slice_items block.now.bytes)) }
+        ensures { (f p : ℕ) (format : Format) (bytes : List ℕ) →
+            CacheHolds self.new f p format bytes → CacheHolds self.old f p format bytes
+            ⊎ ((f ≡ file) × (p ≡ place) × (format ≡ block.now.format)
+            × (bytes ≡ rc_slice_items block.now.bytes)) }
     {
         let Some(number) = self.number_of(file) else {
             return;
@@ -93,14 +105,16 @@ impl BlockCache {
 
     /// Forgets all blocks.
     pub fn clear(&mut self)
-        ensures { (file place : ℕ) (bytes : List ℕ) → CacheHolds self.new file place bytes → ⊥ }
+        ensures { (file place : ℕ) (format : Format) (bytes : List ℕ) →
+            CacheHolds self.new file place format bytes → ⊥ }
     {
         self.numbers.clear();
     }
 
     /// Forgets the blocks of the file.
     pub fn forget(&mut self, file: u64)
-        ensures gone { (place : ℕ) (bytes : List ℕ) → CacheHolds self.new file place bytes → ⊥ }
+        ensures gone { (place : ℕ) (format : Format) (bytes : List ℕ) →
+            CacheHolds self.new file place format bytes → ⊥ }
         ensures keeps { AddsNoBlock self.old self.new }
     {
         self.numbers.remove(&file);

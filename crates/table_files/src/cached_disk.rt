@@ -9,6 +9,7 @@ ghost use Rattle.disk.specs.{CallsAtMost};
 use crate::block::CheckedBlock;
 use crate::cache::BlockCache;
 use crate::read::read_block;
+use byte_fields::Format;
 use disk::{Crash, Disk, DiskError, Fault, Junk};
 use std::alloc::{AllocFailed, Global};
 use std::num::NonZeroUsize;
@@ -59,9 +60,9 @@ impl<D: Disk + Drop> CachedDisk<D> {
         &self.disk
     }
 
-    /// The block that a file has from a place on, of this length in bytes. `Damaged` where the file
-    /// has no block there, `Disk` where the device failed, `Memory` where there is none for the
-    /// block.
+    /// The block of the format that a file has from a place on, of this length in bytes. `Damaged`
+    /// where the file has no such block there, `Disk` where the device failed, `Memory` where there
+    /// is none for the block.
     ///
     /// It needs one device call, and none where the block is kept. A block that was read is checked
     /// and kept; where there is no memory for that, it is not kept.
@@ -71,21 +72,23 @@ impl<D: Disk + Drop> CachedDisk<D> {
         file: u64,
         place: u64,
         len: usize,
+        format: Format,
     ) -> Result<CheckedBlock, FileError>
         ensures kept { KeepsDisk ⟦<CachedDisk<D> as Disk>⟧ self.old self.new (IsErrOf result Disk) ⊥
             IsSame }
         ensures answers { ⟦<CachedDisk<D> as Disk>⟧.is_honest self.old →
-            BlockAnswer (⟦<CachedDisk<D> as Disk>⟧.state self.old) file place len result }
-        ensures len { IfOk result (λ block. length (rc_slice_items block.bytes) ≡ len) }
+            BlockAnswer (⟦<CachedDisk<D> as Disk>⟧.state self.old) file place len format result }
+        ensures len { IfOk result (λ block. (length (rc_slice_items block.bytes) ≡ len)
+            × (block.format ≡ format)) }
         ensures still { IsStill ⟦<CachedDisk<D> as Disk>⟧ self.old self.new }
         ensures calls { CallsAtMost ⟦<CachedDisk<D> as Disk>⟧ 1 self.old self.new }
     {
-        if let Some(block) = self.cache.get(file, place)? {
+        if let Some(block) = self.cache.get(file, place, format)? {
             if block.bytes.len() == len {
                 return Ok(block);
             }
         }
-        let block = read_block(alloc, &mut self.disk, file, place, len)?;
+        let block = read_block(alloc, &mut self.disk, file, place, len, format)?;
         self.cache.keep(file, place, &block);
         Ok(block)
     }

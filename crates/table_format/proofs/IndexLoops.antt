@@ -22,6 +22,7 @@ use Rattle.table_format.specs.Parts.{FillsPlaces, IsIndex, IsIndexLine, end_spot
 use Rattle.table_format.specs.Reading.{line_at}
 use Rattle.table_format.specs.Tables.{index_content, line_bytes}
 use Rattle.table_format.specs.declared.line.IndexLine.{IndexLine}
+use Rattle.byte_fields.specs.declared.format.Format.{Format}
 
 -- ---- places
 
@@ -54,17 +55,19 @@ fills_end at (x ∷ lines) a b f g = fills_end (at + x.len) lines a b f.1 g.1
 
 -- ---- lines
 
-line_long : (line : IndexLine) → 0 < length (line_bytes line)
-line_long line = omega arith
+line_long : (format : Format) (line : IndexLine) → 0 < length (line_bytes format line)
+line_long format line = omega arith
 
-pub record LinesRead (text rest : List ℕ) (lines : List IndexLine) (place end : ℕ) : Type 0 where
-  pub passed : Passed IsIndexLine line_bytes text rest lines
+pub record LinesRead (format : Format) (text rest : List ℕ) (lines : List IndexLine) (place end : ℕ)
+    : Type 0 where
+  pub passed : Passed (IsIndexLine format) (line_bytes format) text rest lines
   pub rising : AllPairs (EntryPrecedes Forward) (map end_spot lines)
   pub fills : FillsPlaces 0 lines place
   pub within : place ≤ end
 
-pub lines_begin : (text : List ℕ) (end : ℕ) → IsBytes text → LinesRead text text [] 0 end
-lines_begin text end fits =
+pub lines_begin : (format : Format) (text : List ℕ) (end : ℕ) → IsBytes text
+    → LinesRead format text text [] 0 end
+lines_begin format text end fits =
     record {
       passed = record { spelled = refl; each = tt; fits = fits };
       rising = λ i j d lt short. absurd (omega (arith, short));
@@ -72,14 +75,16 @@ lines_begin text end fits =
       within = omega arith;
     }
 
-pub lines_next : (text rest : List ℕ) (lines : List IndexLine) (place end : ℕ) (line : IndexLine)
+pub lines_next : (format : Format) (text rest : List ℕ) (lines : List IndexLine) (place end : ℕ)
+    (line : IndexLine)
     (behind : List ℕ)
-    → LinesRead text rest lines place end → line_at rest ≡ Some (line, behind) → line.place ≡ place
+    → LinesRead format text rest lines place end → line_at format rest ≡ Some (line, behind)
+    → line.place ≡ place
     → place + line.len ≤ end → CanFollow (map end_spot lines) (end_spot line)
-    → LinesRead text behind (lines ++ line ∷ []) (place + line.len) end
-lines_next text rest lines place end line behind r e at fit follows =
+    → LinesRead format text behind (lines ++ line ∷ []) (place + line.len) end
+lines_next format text rest lines place end line behind r e at fit follows =
     record {
-      passed = passed_next line_reads text rest lines line behind r.passed e;
+      passed = passed_next (line_reads format) text rest lines line behind r.passed e;
       rising = subst (AllPairs (EntryPrecedes Forward))
           (sym (map-append end_spot lines (line ∷ [])))
           (rising_push (map end_spot lines) (end_spot line) r.rising follows);
@@ -88,37 +93,44 @@ lines_next text rest lines place end line behind r e at fit follows =
     }
 
 -- what stands for an index, seen from its reader
-pub record SpelledLines (text : List ℕ) (count : ℕ) (all : List IndexLine) : Type 0 where
+pub record SpelledLines (format : Format) (text : List ℕ) (count : ℕ) (all : List IndexLine) : Type
+    0 where
   pub size : count ≡ length all
-  pub spelled : text ≡ flat_map line_bytes all
+  pub spelled : text ≡ flat_map (line_bytes format) all
 
-pub index_spells : (part content text : List ℕ) (count end : ℕ) → part ≡ sealed content
-    → number_at w32 content ≡ Some (count, text) → (all : List IndexLine) → IsIndex part end all
-    → SpelledLines text count all
-index_spells part content text count end is e all x =
-    let same : content ≡ index_content all =
-    same_content content (index_content all) (sym is ∙ x.spelled) in
-    let c = same_counted content text (flat_map line_bytes all) count (length all) same x.few e in
+pub index_spells : (format : Format) (part content text : List ℕ) (count end : ℕ)
+    → part ≡ sealed content
+    → number_at w32 content ≡ Some (count, text) → (all : List IndexLine)
+    → IsIndex format part end all
+    → SpelledLines format text count all
+index_spells format part content text count end is e all x =
+    let same : content ≡ index_content format all =
+    same_content content (index_content format all) (sym is ∙ x.spelled) in
+    let c = same_counted content text (flat_map (line_bytes format) all) count (length all) same
+    x.few e in
     record { size = c.0; spelled = c.1 }
 
-pub after_lines : (text rest : List ℕ) (lines : List IndexLine) (place end count : ℕ)
+pub after_lines : (format : Format) (text rest : List ℕ) (lines : List IndexLine)
+    (place end count : ℕ)
     (part : List ℕ) (all : List IndexLine)
-    → LinesRead text rest lines place end → SpelledLines text count all → IsIndex part end all
-    → After IsIndexLine line_bytes rest lines all
-after_lines text rest lines place end count part all r w x =
-    split_of line_reads line_long text rest lines all r.passed
-    (recursion_from_All IsIndexLine all x.each) w.spelled
+    → LinesRead format text rest lines place end → SpelledLines format text count all
+    → IsIndex format part end all
+    → After (IsIndexLine format) (line_bytes format) rest lines all
+after_lines format text rest lines place end count part all r w x =
+    split_of (line_reads format) (line_long format) text rest lines all r.passed
+    (recursion_from_All (IsIndexLine format) all x.each) w.spelled
 
-pub next_line : (text rest : List ℕ) (lines : List IndexLine) (place end count : ℕ) (part : List ℕ)
+pub next_line : (format : Format) (text rest : List ℕ) (lines : List IndexLine)
+    (place end count : ℕ) (part : List ℕ)
     (all : List IndexLine)
-    (line : IndexLine) (behind : List ℕ) → LinesRead text rest lines place end
-    → SpelledLines text count all
-    → IsIndex part end all → 0 < length rest → line_at rest ≡ Some (line, behind)
+    (line : IndexLine) (behind : List ℕ) → LinesRead format text rest lines place end
+    → SpelledLines format text count all
+    → IsIndex format part end all → 0 < length rest → line_at format rest ≡ Some (line, behind)
     → (line.place ≡ place) × ((place + line.len ≤ end)
     × CanFollow (map end_spot lines) (end_spot line))
-next_line text rest lines place end count part all line behind r w x some e =
-    let n = next_of line_reads rest lines all line behind
-    (after_lines text rest lines place end count part all r w x) some e in
+next_line format text rest lines place end count part all line behind r w x some e =
+    let n = next_of (line_reads format) rest lines all line behind
+    (after_lines format text rest lines place end count part all r w x) some e in
     let f = fills_split 0 lines n.others line place end r.fills
     (subst (λ (l : List IndexLine). FillsPlaces 0 l end) n.split x.fills) in
     let rising = subst (AllPairs (EntryPrecedes Forward))
@@ -130,71 +142,83 @@ next_line text rest lines place end count part all line behind r w x some e =
       ),
     )
 
-pub no_line : (text rest : List ℕ) (lines : List IndexLine) (place end count : ℕ) (part : List ℕ)
+pub no_line : (format : Format) (text rest : List ℕ) (lines : List IndexLine) (place end count : ℕ)
+    (part : List ℕ)
     (all : List IndexLine)
-    → LinesRead text rest lines place end → SpelledLines text count all
-    → IsIndex part end all → 0 < length rest → line_at rest ≡ None → ⊥
-no_line text rest lines place end count part all r w x some e =
-    let s = after_lines text rest lines place end count part all r w x in
-    never_none line_reads rest s.after s.each s.spelled some e
+    → LinesRead format text rest lines place end → SpelledLines format text count all
+    → IsIndex format part end all → 0 < length rest → line_at format rest ≡ None → ⊥
+no_line format text rest lines place end count part all r w x some e =
+    let s = after_lines format text rest lines place end count part all r w x in
+    never_none (line_reads format) rest s.after s.each s.spelled some e
 
-pub lines_all : (text rest : List ℕ) (lines : List IndexLine) (place end count : ℕ) (part : List ℕ)
+pub lines_all : (format : Format) (text rest : List ℕ) (lines : List IndexLine)
+    (place end count : ℕ) (part : List ℕ)
     (all : List IndexLine)
-    → LinesRead text rest lines place end → SpelledLines text count all
-    → IsIndex part end all → length rest ≡ 0 → all ≡ lines
-lines_all text rest lines place end count part all r w x none =
-    all_read line_bytes line_long rest lines all
-    (after_lines text rest lines place end count part all r w x) none
+    → LinesRead format text rest lines place end → SpelledLines format text count all
+    → IsIndex format part end all → length rest ≡ 0 → all ≡ lines
+lines_all format text rest lines place end count part all r w x none =
+    all_read (line_bytes format) (line_long format) rest lines all
+    (after_lines format text rest lines place end count part all r w x) none
 
-some_lines : (text : List ℕ) (lines : List IndexLine) → text ≡ flat_map line_bytes lines
+some_lines : (format : Format) (text : List ℕ) (lines : List IndexLine)
+    → text ≡ flat_map (line_bytes format) lines
     → 0 < length text
     → 1 ≤ length lines
-some_lines text [] is full = absurd (omega (arith, full, ap length is))
-some_lines text (x ∷ lines) is full = omega arith
+some_lines format text [] is full = absurd (omega (arith, full, ap length is))
+some_lines format text (x ∷ lines) is full = omega arith
 
 -- an index that stands for lines has text
-pub has_text : (text : List ℕ) (count : ℕ) (part : List ℕ) (end : ℕ) (all : List IndexLine)
-    → SpelledLines text count all
-    → IsIndex part end all → 0 < length text
-has_text text count part end all w x = by all w.spelled x.some
+pub has_text : (format : Format) (text : List ℕ) (count : ℕ) (part : List ℕ) (end : ℕ)
+    (all : List IndexLine)
+    → SpelledLines format text count all
+    → IsIndex format part end all → 0 < length text
+has_text format text count part end all w x = by all w.spelled x.some
   where
-    by : (lines : List IndexLine) → text ≡ flat_map line_bytes lines → 1 ≤ length lines
+    by : (lines : List IndexLine) → text ≡ flat_map (line_bytes format) lines → 1 ≤ length lines
         → 0 < length text
     by [] is some = absurd (omega (arith, some))
     by (x ∷ lines) is some =
         omega (
           arith,
           ap length is,
-          ap length (flat_map-cons line_bytes x lines),
-          length-append (line_bytes x) (flat_map line_bytes lines),
-          line_long x,
+          ap length (flat_map-cons (line_bytes format) x lines),
+          length-append (line_bytes format x) (flat_map (line_bytes format) lines),
+          line_long format x,
         )
 
-pub is_index : (part content text rest : List ℕ) (count : ℕ) (lines : List IndexLine) (end : ℕ)
+pub is_index : (format : Format) (part content text rest : List ℕ) (count : ℕ)
+    (lines : List IndexLine) (end : ℕ)
     → part ≡ sealed content
     → IsBytes content → number_at w32 content ≡ Some (count, text)
-    → LinesRead text rest lines end end
-    → length rest ≡ 0 → length lines ≡ count → 0 < length text → IsIndex part end lines
-is_index part content text rest count lines end is fits e r none len full =
-    let some = some_lines text lines (text_end text rest lines r.passed none) full in
+    → LinesRead format text rest lines end end
+    → length rest ≡ 0 → length lines ≡ count → 0 < length text → IsIndex format part end lines
+is_index format part content text rest count lines end is fits e r none len full =
+    let some = some_lines format text lines (text_end text rest lines r.passed none) full in
     let t = length_reads.takes content (count, text) fits e in
     let few = t.1 in
     record {
       spelled = is ∙ ap sealed (t.0.parts ∙ ap (λ (x : List ℕ). be32 count ++ x)
           (text_end text rest lines r.passed none)
-          ∙ ap (λ (k : ℕ). be32 k ++ flat_map line_bytes lines) (sym len));
+          ∙ ap (λ (k : ℕ). be32 k ++ flat_map (line_bytes format) lines) (sym len));
       some = some;
       few = omega (arith, few, len);
-      each = All-from_recursion IsIndexLine lines r.passed.each;
+      each = All-from_recursion (IsIndexLine format) lines r.passed.each;
       rising = r.rising;
       fills = r.fills;
     }
 
-pub line_shorter : (rest : List ℕ) (line : IndexLine) (behind : List ℕ) → IsBytes rest
-    → line_at rest ≡ Some (line, behind) → length behind < length rest
-line_shorter rest line behind fits e =
-    let t = line_reads.takes rest (line, behind) fits e in
-    omega (arith, line_long line, ap length t.0.parts, length-append (line_bytes line) behind)
+pub line_shorter : (format : Format) (rest : List ℕ) (line : IndexLine) (behind : List ℕ)
+    → IsBytes rest
+    → line_at format rest ≡ Some (line, behind) → length behind < length rest
+line_shorter format rest line behind fits e =
+    let t = (line_reads format).takes rest (line, behind) fits e in
+    omega (
+      arith,
+      line_long format line,
+      ap length t.0.parts,
+      length-append (line_bytes format line)
+          behind,
+    )
 
 line_last : (lines : List IndexLine) (n : ℕ) (x : IndexLine) → length lines ≡ suc n
     → slice_get lines n ≡ Some x → last_entry (map end_spot lines) ≡ Some (end_spot x)

@@ -4,7 +4,6 @@ use Rattle.std.proofs.Common.{None}
 use Rattle.std.proofs.Common.{IfSome, refl, ap, subst, arith, nat_le, ◌^◌}
 use Rattle.std.proofs.lemmas.Bool.{leb-true, le-leb}
 use Rattle.byte_fields.specs.{StoredKey}
-use Rattle.byte_fields.specs.SpelledKeysLemmas.{key_reads}
 use Rattle.kv_types.specs.declared.bounds.TheConstants.{MAX_VALUE, MAX_NUMBER}
 use Rattle.byte_fields.specs.{◌>>=◌, text_at}
 use Rattle.byte_fields.specs.FieldsLemmas.{IsBytes, IsBytes-rest, bind_some, some_is, BeginsWith}
@@ -12,8 +11,10 @@ use Rattle.byte_fields.specs.TextsLemmas.{text_begins, text_again}
 use Rattle.byte_fields.specs.ReadersLemmas.{Reads, both_reads, made_reads, only_reads, right_reads}
 use Rattle.byte_fields.specs.ReadersLemmas.{number_reads, wide64}
 use Rattle.kv_types.specs.{Entry}
-use Rattle.table_format.specs.Blocks.{IsTableEntry, be64, change_bytes, entry_bytes}
+use Rattle.table_format.specs.Blocks.{IsEntryOf, be64, change_bytes, entry_bytes}
+use Rattle.byte_fields.specs.SpelledKeysLemmas.{key_reads_in}
 use Rattle.table_format.specs.Reading.{as_entry, change_at, stored_number_at, table_entry_at}
+use Rattle.byte_fields.specs.declared.format.Format.{Format}
 
 -- a number is read as it is spelled
 pub count_reads : Reads (λ n. n ≤ MAX_NUMBER) be64 stored_number_at
@@ -65,11 +66,15 @@ abbrev as_parts : Entry → StoredKey × (ℕ × Option (List ℕ))
 as_parts entry = (entry.key, (entry.number, entry.value))
 
 -- an entry that is read is the one that was spelled
-pub entry_reads : Reads IsTableEntry entry_bytes table_entry_at
+pub entry_reads : (format : Format)
+    → Reads (IsEntryOf format) (entry_bytes format) (table_entry_at format)
 unfolding table_entry_at
-entry_reads =
+entry_reads format =
     right_reads
-    (λ entry is. record { key = is.0; number = is.1.0; value = is.1.1 })
-    (λ entry is. (is.key, (is.number, is.value)))
+    (λ entry is. record {
+      limits = record { key = is.0.0; number = is.1.0; value = is.1.1 };
+      key = is.0.1;
+    })
+    (λ entry is. ((is.limits.key, is.key), (is.limits.number, is.limits.value)))
     (made_reads as_entry as_parts (λ entry. refl) (λ x. refl)
-    (both_reads key_reads (both_reads count_reads change_reads)))
+    (both_reads (key_reads_in format) (both_reads count_reads change_reads)))

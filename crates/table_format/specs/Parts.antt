@@ -1,7 +1,7 @@
 -- The parts of a table by themselves: what their bytes represent.
 use Rattle.std.specs.Prelude.{◌≡◌, ◌⊎◌, ℕ, ◌+◌, ◌<◌, ◌≤◌, ◌^◌, List, [], ◌∷◌, length, map, All}
 use Rattle.std.specs.Prelude.{Option, Some, None, Result, Ok, Err}
-use Rattle.byte_fields.specs.{IsStoredKey}
+use Rattle.byte_fields.specs.{IsKeyOf, IsStoredKey}
 use Rattle.kv_types.specs.declared.bounds.TheConstants.{MAX_NUMBER}
 use Rattle.kv_types.specs.{Entry}
 use Rattle.merge_iter.specs.{spot}
@@ -9,6 +9,7 @@ use Rattle.table_format.specs.declared.error.FileError.{FileError}
 use Rattle.table_format.specs.declared.error.FileError.TheVariants.{Memory, Damaged}
 use Rattle.table_format.specs.declared.line.IndexLine.{IndexLine}
 use Rattle.table_format.specs.declared.footer.Footer.{Footer}
+use Rattle.byte_fields.specs.declared.format.Format.{Format}
 use Rattle.table_format.specs.Blocks.{AreRising}
 use Rattle.table_format.specs.Tables.{filter_part, index_part, footer_part}
 
@@ -48,11 +49,12 @@ pub record IsFilterPart (part filter : List ℕ) : Type 0 where
 
 -- ---- the index
 
--- the fields of a line are in their ranges
-pub record IsIndexLine (line : IndexLine) : Type 0 where
+-- the fields of a line are in their ranges, and a table of the format may have its key
+pub record IsIndexLine (format : Format) (line : IndexLine) : Type 0 where
   pub place : line.place < 2 ^ 64
   pub len : line.len < 2 ^ 32
   pub key : IsStoredKey line.key
+  pub space : IsKeyOf format line.key
   pub number : line.number ≤ MAX_NUMBER
 
 -- the spot of the last entry of a line's block
@@ -66,10 +68,11 @@ FillsPlaces place (line ∷ lines) end =
     (line.place ≡ place) × FillsPlaces (place + line.len) lines end
 
 -- the lines of blocks that fill the file from its first place to this one
-pub record IsIndex (part : List ℕ) (end : ℕ) (lines : List IndexLine) : Type 0 where
-  pub spelled : part ≡ index_part lines
+pub record IsIndex (format : Format) (part : List ℕ) (end : ℕ) (lines : List IndexLine)
+    : Type 0 where
+  pub spelled : part ≡ index_part format lines
   pub some : 1 ≤ length lines
   pub few : length lines < 2 ^ 32
-  pub each : All IsIndexLine lines
+  pub each : All (IsIndexLine format) lines
   pub rising : AreRising (map end_spot lines)
   pub fills : FillsPlaces 0 lines end

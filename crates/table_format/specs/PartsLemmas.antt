@@ -10,10 +10,13 @@ use Rattle.byte_fields.specs.ReadersLemmas.{number_reads, wide32, wide64, IsByte
 use Rattle.table_format.specs.FrontsLemmas.{split_same}
 use Rattle.table_format.specs.SealedLemmas.{length-sealed}
 use Rattle.table_format.specs.Blocks.{be32, be64, digest, sealed}
+use Rattle.table_format.specs.Formats.{format_number}
+use Rattle.table_format.specs.FormatsLemmas.{format_reads}
 use Rattle.table_format.specs.Parts.{HasFieldRanges, IsFilterPart, IsFooter}
 use Rattle.table_format.specs.Reading.{as_footer, footer_at}
 use Rattle.table_format.specs.Tables.{footer_content, magic}
 use Rattle.table_format.specs.declared.footer.Footer.{Footer}
+use Rattle.byte_fields.specs.declared.format.Format.{Format}
 
 -- of one text with a digest there is one content
 pub same_content : (a b : List ℕ) → sealed a ≡ sealed b → a ≡ b
@@ -26,16 +29,13 @@ none_some o x a b = absurd cc
 
 -- ---- the footer
 
-abbrev as_parts : Footer → ℕ × (ℕ × (ℕ × (ℕ × ℕ)))
-as_parts it = (it.index, (it.index_len, (it.filter, (it.filter_len, it.entries))))
+abbrev as_parts : Footer → ℕ × (ℕ × (ℕ × (ℕ × (ℕ × Format))))
+as_parts it =
+    (it.index, (it.index_len, (it.filter, (it.filter_len, (it.entries, it.format)))))
 
 abbrev fields_text : Footer → List ℕ
-fields_text it = be64 it.index ++
-    (be32 it.index_len ++ (be64 it.filter ++ (be32 it.filter_len ++ be64 it.entries)))
-
--- what a footer ends in: the number of the format and the magic
-abbrev pub format_bytes : List ℕ
-format_bytes = be32 2 ++ magic
+fields_text it = be64 it.index ++ (be32 it.index_len ++ (be64 it.filter
+    ++ (be32 it.filter_len ++ (be64 it.entries ++ be32 (format_number it.format)))))
 
 -- the fields of a footer are read as they are spelled
 pub footer_reads : Reads HasFieldRanges fields_text footer_at
@@ -48,45 +48,45 @@ footer_reads =
       filter = is.1.1.0;
       filter_len =
           is.1.1.1.0;
-      entries = is.1.1.1.1;
+      entries = is.1.1.1.1.0;
     })
-    (λ it is. (is.index, (is.index_len, (is.filter, (is.filter_len, is.entries)))))
+    (λ it is. (is.index, (is.index_len, (is.filter, (is.filter_len, (is.entries, tt))))))
     (made_reads as_footer as_parts (λ it. refl) (λ x. refl)
     (both_reads (number_reads w64 (2 ^ 64) wide64) (both_reads (number_reads w32 (2 ^ 32) wide32)
     (both_reads (number_reads w64 (2 ^ 64) wide64) (both_reads (number_reads w32 (2 ^ 32) wide32)
-    (number_reads w64 (2 ^ 64) wide64))))))
+    (both_reads (number_reads w64 (2 ^ 64) wide64) format_reads))))))
 
 -- a footer that is spelled is read
 pub footer_again : (part content : List ℕ) (it : Footer) → part ≡ sealed content → IsFooter part it
-    → footer_at content ≡ Some (it, format_bytes)
+    → footer_at content ≡ Some (it, magic)
 footer_again part content it is f =
     let same : content ≡ footer_content it =
     same_content content (footer_content it) (sym is ∙ f.spelled) in
-    ap footer_at same ∙ footer_reads.again it format_bytes f.ranges
+    ap footer_at same ∙ footer_reads.again it magic f.ranges
 
 -- what no footer is read from is no footer
 pub footer_none : (part content : List ℕ) → part ≡ sealed content → footer_at content ≡ None
     → (it : Footer) → IsFooter part it → ⊥
 footer_none part content is none it f =
-    none_some (footer_at content) (it, format_bytes) none (footer_again part content it is f)
+    none_some (footer_at content) (it, magic) none (footer_again part content it is f)
 
 -- the footer that is read is the only one that is spelled so
 pub footer_same : (part content : List ℕ) (it : Footer) (rest : List ℕ) → part ≡ sealed content
     → footer_at content ≡ Some (it, rest) → (other : Footer) → IsFooter part other
-    → (other ≡ it) × (rest ≡ format_bytes)
+    → (other ≡ it) × (rest ≡ magic)
 footer_same part content it rest is read other f =
-    let e : (other, format_bytes) ≡ (it, rest) =
-    some_is (other, format_bytes) (it, rest)
+    let e : (other, magic) ≡ (it, rest) =
+    some_is (other, magic) (it, rest)
     (sym (footer_again part content other is f) ∙ read) in
     (ap (λ (p : Footer × List ℕ). p.0) e, sym (ap (λ (p : Footer × List ℕ). p.1) e))
 
--- what is read up to the number of the format and the magic is a footer
+-- what is read up to the magic is a footer
 pub footer_right : (part content : List ℕ) (it : Footer) (rest : List ℕ) → part ≡ sealed content
     → IsBytes content
-    → footer_at content ≡ Some (it, rest) → rest ≡ format_bytes → IsFooter part it
+    → footer_at content ≡ Some (it, rest) → rest ≡ magic → IsFooter part it
 footer_right part content it rest is fits read end =
     let t = footer_reads.takes content (it, rest) fits read in
-    let whole : content ≡ fields_text it ++ format_bytes =
+    let whole : content ≡ fields_text it ++ magic =
     t.0.parts ∙ ap (λ (r : List ℕ). fields_text it ++ r) end in
     record { spelled = is ∙ ap sealed whole; ranges = t.1 }
 

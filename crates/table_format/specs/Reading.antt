@@ -2,14 +2,16 @@
 use Rattle.std.specs.Prelude.{ℕ, zero, suc, List, [], ◌∷◌, Option, Some, None, nat_le}
 use Rattle.std.specs.Option.{option_map}
 use Rattle.std.specs.Int.{w32, w64}
-use Rattle.byte_fields.specs.{StoredKey, key_at, lent_key}
+use Rattle.byte_fields.specs.{StoredKey, key_at_in, lent_key}
 use Rattle.kv_types.specs.declared.bounds.TheConstants.{MAX_VALUE, MAX_NUMBER}
 use Rattle.kv_types.specs.{Entry}
 use Rattle.byte_fields.specs.{◌>>=◌, text_at, Reader, both, mapped, only, number_at}
 use Rattle.table_format.specs.declared.line.IndexLine.{IndexLine}
 use Rattle.table_format.specs.declared.line.LentLine.{LentLine}
 use Rattle.table_format.specs.declared.footer.Footer.{Footer}
+use Rattle.byte_fields.specs.declared.format.Format.{Format}
 use Rattle.table_format.specs.declared.entry.LentEntry.{LentEntry}
+use Rattle.table_format.specs.Formats.{format_at}
 
 -- ---- entries
 
@@ -30,8 +32,9 @@ abbrev pub as_entry : StoredKey × (ℕ × Option (List ℕ)) → Entry
 as_entry x = record { key = x.0; number = x.1.0; value = x.1.1 }
 
 -- an entry: its key, its number and what it leaves
-unfoldable pub table_entry_at : Reader Entry
-table_entry_at bytes = mapped as_entry (both key_at (both stored_number_at change_at)) bytes
+unfoldable pub table_entry_at : Format → Reader Entry
+table_entry_at format bytes =
+    mapped as_entry (both (key_at_in format) (both stored_number_at change_at)) bytes
 
 -- an entry that is lent, as an entry
 abbrev pub lent_entry : LentEntry → Entry
@@ -52,25 +55,26 @@ abbrev pub as_line : ℕ × (ℕ × (StoredKey × ℕ)) → IndexLine
 as_line x = record { place = x.0; len = x.1.0; key = x.1.1.0; number = x.1.1.1 }
 
 -- a line of the index: place and length of a block, key and number of its last entry
-unfoldable pub line_at : Reader IndexLine
-line_at bytes =
-    mapped as_line (both (number_at w64) (both (number_at w32) (both key_at stored_number_at)))
-    bytes
+unfoldable pub line_at : Format → Reader IndexLine
+line_at format bytes =
+    mapped as_line (both (number_at w64) (both (number_at w32)
+    (both (key_at_in format) stored_number_at))) bytes
 
 -- ---- the footer
 
 -- the parts of a footer, as a footer
-abbrev pub as_footer : ℕ × (ℕ × (ℕ × (ℕ × ℕ))) → Footer
+abbrev pub as_footer : ℕ × (ℕ × (ℕ × (ℕ × (ℕ × Format)))) → Footer
 as_footer x = record {
   index = x.0;
   index_len = x.1.0;
   filter = x.1.1.0;
   filter_len = x.1.1.1.0;
-  entries = x.1.1.1.1;
+  entries = x.1.1.1.1.0;
+  format = x.1.1.1.1.1;
 }
 
--- place and length of the index, those of the filter, and the number of entries
+-- place and length of the index, those of the filter, the number of entries, and the format
 unfoldable pub footer_at : Reader Footer
 footer_at bytes =
     mapped as_footer (both (number_at w64) (both (number_at w32) (both (number_at w64)
-    (both (number_at w32) (number_at w64))))) bytes
+    (both (number_at w32) (both (number_at w64) format_at))))) bytes

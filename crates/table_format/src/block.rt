@@ -9,7 +9,7 @@ ghost use Rattle.table_format.specs.Reading.{lent_entry};
 use crate::LentEntry;
 use crate::entry::entry_of;
 use crate::part::unsealed;
-use byte_fields::read_u32;
+use byte_fields::{Format, read_u32};
 use merge_iter::order;
 
 // Whether the entry comes behind the last one.
@@ -23,12 +23,12 @@ fn follows(last: Option<LentEntry>, entry: LentEntry) -> bool
     }
 }
 
-/// The bytes of the entries, if the bytes are a block. It checks the digest, each entry, their
-/// order and their number.
-pub fn entries_of(part: &[u8]) -> Option<&[u8]>
-    ensures right { IfSome result (λ text. IsBlockText part.now text.now) }
-    ensures one { (entries : List Entry) → IsBlock part.now entries →
-        MatchOption result ⊥ (λ text. text.now ≡ entries_bytes entries) }
+/// The bytes of the entries, if the bytes are a block in the format. It checks the digest, each
+/// entry, their order and their number.
+pub fn entries_of(format: Format, part: &[u8]) -> Option<&[u8]>
+    ensures right { IfSome result (λ text. IsBlockText format part.now text.now) }
+    ensures one { (entries : List Entry) → IsBlock format part.now entries →
+        MatchOption result ⊥ (λ text. text.now ≡ entries_bytes format entries) }
 {
     let content = unsealed(part)?;
     let (count, entries) = read_u32(content)?;
@@ -36,7 +36,7 @@ pub fn entries_of(part: &[u8]) -> Option<&[u8]>
     let mut seen = 0u32;
     let mut rest = entries;
     while !rest.is_empty() {
-        let (entry, after) = entry_of(rest)?;
+        let (entry, after) = entry_of(format, rest)?;
         if seen == count || !follows(last, entry) {
             return None;
         }

@@ -4,7 +4,7 @@ ghost use Rattle.byte_fields.specs.{ReadsFront};
 ghost use Rattle.table_format.specs.Reading.{change_at, lent_entry, stored_number_at};
 ghost use Rattle.table_format.specs.Reading.{table_entry_at};
 
-use byte_fields::{LentKey, read_text, read_u64};
+use byte_fields::{Format, LentKey, read_text, read_u64};
 use kv_types::bounds::{MAX_NUMBER, MAX_VALUE};
 
 /// A version of a key, lent: its value at a number, or `None` if the key was deleted there.
@@ -15,6 +15,7 @@ pub struct LentEntry<'a> {
     pub value: Option<&'a [u8]>,
 }
 
+#[inline(always)]
 #[tactic(auto, unfolding(crate::specs::Reading::stored_number_at))]
 pub fn number_of(bytes: &[u8]) -> Option<(u64, &[u8])>
     ensures { ReadsFront (λ x. (x.0, x.1.now)) result (stored_number_at bytes.now) }
@@ -41,12 +42,15 @@ fn change_of(bytes: &[u8]) -> Option<(Option<&[u8]>, &[u8])>
     }
 }
 
-/// The entry at the front of the bytes, and the bytes behind it.
+/// The entry at the front of the bytes, as a table of the format spells it, and the bytes behind
+/// it.
+#[inline(always)]
 #[tactic(auto, unfolding(crate::specs::Reading::table_entry_at))]
-pub fn entry_of(bytes: &[u8]) -> Option<(LentEntry<'_>, &[u8])>
-    ensures { ReadsFront (λ x. (lent_entry x.0, x.1.now)) result (table_entry_at bytes.now) }
+pub fn entry_of(format: Format, bytes: &[u8]) -> Option<(LentEntry<'_>, &[u8])>
+    ensures { ReadsFront (λ x. (lent_entry x.0, x.1.now)) result
+        (table_entry_at format bytes.now) }
 {
-    let (key, rest) = LentKey::read_from(bytes)?;
+    let (key, rest) = LentKey::read_from(format, bytes)?;
     let (number, rest) = number_of(rest)?;
     let (value, rest) = change_of(rest)?;
     Some((LentEntry { key, number, value }, rest))

@@ -5,15 +5,16 @@ ghost use Rattle.table_format.specs.Parts.{ReadsPart, IsFooter};
 ghost use Rattle.table_format.specs.Reading.{footer_at};
 ghost use Rattle.table_format.specs.Tables.{footer_part};
 
+use crate::format::{format_of, number_of_format};
 use crate::part::{seal, unsealed};
-use byte_fields::{put_u32, put_u64, read_u32, read_u64};
+use byte_fields::{Format, put_u32, put_u64, read_u32, read_u64};
 use std::alloc::{AllocError, Global};
 
-/// Format 2 and the magic `CRLSMT01`.
-const FORMAT: [u8; 12] = [0, 0, 0, 2, 67, 82, 76, 83, 77, 84, 48, 49];
+/// The magic `CRLSMT01`.
+const MAGIC: [u8; 8] = [67, 82, 76, 83, 77, 84, 48, 49];
 
-/// Where index and filter stand in a file, how long they are with their digests, and how many
-/// entries the table has.
+/// Where index and filter stand in a file, how long they are with their digests, how many entries
+/// the table has, and its format.
 #[derive(Clone, Copy)]
 pub struct Footer {
     pub index: u64,
@@ -21,6 +22,7 @@ pub struct Footer {
     pub filter: u64,
     pub filter_len: u32,
     pub entries: u64,
+    pub format: Format,
 }
 
 /// The part that holds the footer.
@@ -33,7 +35,8 @@ pub fn footer_part_of(alloc: Global, footer: Footer) -> Result<Vec<u8>, AllocErr
     put_u64(&mut part, footer.filter)?;
     put_u32(&mut part, footer.filter_len)?;
     put_u64(&mut part, footer.entries)?;
-    part.extend_from_slice(&FORMAT)?;
+    put_u32(&mut part, number_of_format(footer.format))?;
+    part.extend_from_slice(&MAGIC)?;
     seal(&mut part)?;
     Ok(part)
 }
@@ -48,12 +51,14 @@ fn fields_of(bytes: &[u8]) -> Option<(Footer, &[u8])>
     let (filter, rest) = read_u64(rest)?;
     let (filter_len, rest) = read_u32(rest)?;
     let (entries, rest) = read_u64(rest)?;
+    let (format, rest) = format_of(rest)?;
     let footer = Footer {
         index,
         index_len,
         filter,
         filter_len,
         entries,
+        format,
     };
     Some((footer, rest))
 }
@@ -64,7 +69,7 @@ pub fn footer_of(part: &[u8]) -> Option<Footer>
 {
     let content = unsealed(part)?;
     let (footer, rest) = fields_of(content)?;
-    if rest != FORMAT.as_slice() {
+    if rest != MAGIC.as_slice() {
         return None;
     }
     Some(footer)

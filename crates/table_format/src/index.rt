@@ -7,7 +7,7 @@ ghost use Rattle.table_format.specs.Reading.{lent_line};
 use crate::FileError;
 use crate::line::{IndexLine, LentLine, copied, line_of};
 use crate::part::unsealed;
-use byte_fields::read_u32;
+use byte_fields::{Format, read_u32};
 use merge_iter::order;
 use std::alloc::Global;
 
@@ -22,9 +22,15 @@ fn rises(lines: &[IndexLine], line: LentLine) -> bool
     }
 }
 
-/// The lines of an index, if the bytes are one whose blocks fill the file up to this place.
-pub fn lines_of(alloc: Global, part: &[u8], end: u64) -> Result<Vec<IndexLine>, FileError>
-    ensures { ReadsPartOr (IsIndex part.now end) (λ lines. lines.items) result }
+/// The lines of an index, if the bytes are one in the format whose blocks fill the file up to this
+/// place.
+pub fn lines_of(
+    alloc: Global,
+    format: Format,
+    part: &[u8],
+    end: u64,
+) -> Result<Vec<IndexLine>, FileError>
+    ensures { ReadsPartOr (IsIndex format part.now end) (λ lines. lines.items) result }
 {
     let Some(content) = unsealed(part) else {
         return Err(FileError::Damaged);
@@ -36,7 +42,7 @@ pub fn lines_of(alloc: Global, part: &[u8], end: u64) -> Result<Vec<IndexLine>, 
     let mut place = 0;
     let mut rest = text;
     while !rest.is_empty() {
-        let Some((line, after)) = line_of(rest) else {
+        let Some((line, after)) = line_of(format, rest) else {
             return Err(FileError::Damaged);
         };
         if line.place != place || line.len as u64 > end - place || !rises(&lines, line) {

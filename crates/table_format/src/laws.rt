@@ -2,7 +2,7 @@
 //! laws.
 ghost use Rattle.table_format.specs.Tables.{TableIsUnique};
 ghost use Rattle.table_format.specs.Sizes.{SizesAre};
-ghost use Rattle.table_format.specs.Examples.{TableExamples};
+ghost use Rattle.table_format.specs.Examples.{PartExamples, TableExamples};
 
 /// Bytes represent at most one list of entries.
 // law: of `TableRepresents`
@@ -16,8 +16,9 @@ pub fn sizes_are()
     ensures { SizesAre }
 {}
 
-/// The tables of one entry, worked out.
+/// The tables of one entry in both formats, worked out.
 // law: of `TableRepresents`
 pub fn examples()
-    ensures { TableExamples }
+    ensures parts { PartExamples }
+    ensures tables { TableExamples }
 {}

@@ -7,6 +7,7 @@ mod entry;
 mod error;
 mod filter;
 mod footer;
+mod format;
 mod index;
 pub mod laws;
 mod line;

@@ -5,7 +5,7 @@ ghost use Rattle.byte_fields.specs.{ReadsFront};
 ghost use Rattle.table_format.specs.Reading.{lent_line, line_at};
 
 use crate::entry::number_of;
-use byte_fields::{LentKey, StoredKey, read_u32, read_u64};
+use byte_fields::{Format, LentKey, StoredKey, read_u32, read_u64};
 use std::alloc::{AllocError, Global};
 
 /// A line of an index: the place of a block in the file, its length with its digest, and key and
@@ -27,15 +27,15 @@ pub struct LentLine<'a> {
     pub number: u64,
 }
 
-/// The line at the front of the bytes, and the bytes behind it.
+/// The line at the front of the bytes, as a table of the format spells it, and the bytes behind it.
 #[tactic(auto, unfolding(crate::specs::Reading::line_at))]
-pub fn line_of(bytes: &[u8]) -> Option<(LentLine<'_>, &[u8])>
-    ensures line { ReadsFront (λ x. (lent_line x.0, x.1.now)) result (line_at bytes.now) }
+pub fn line_of(format: Format, bytes: &[u8]) -> Option<(LentLine<'_>, &[u8])>
+    ensures line { ReadsFront (λ x. (lent_line x.0, x.1.now)) result (line_at format bytes.now) }
     ensures limit { IfSome result (λ x. IsStoredKey (lent_key x.0.key)) }
 {
     let (place, rest) = read_u64(bytes)?;
     let (len, rest) = read_u32(rest)?;
-    let (key, rest) = LentKey::read_from(rest)?;
+    let (key, rest) = LentKey::read_from(format, rest)?;
     let (number, rest) = number_of(rest)?;
     let line = LentLine {
         place,

@@ -8,6 +8,7 @@ use Rattle.std.proofs.lemmas.List.Concat.{flat_map-cons}
 use Rattle.std.proofs.lemmas.List.Elements.{All-head, All-tail}
 use Rattle.std.proofs.lemmas.List.Elements.{All-weaker}
 use Rattle.record_log.specs.declared.log.TheConstants.{MAX_RECORD}
+use Rattle.byte_fields.specs.declared.format.Format.TheVariants as formats
 use Rattle.version_edits.specs.declared.line.TheConstants.{MAX_LINES}
 use Rattle.byte_fields.specs.{key_bytes}
 use Rattle.byte_fields.specs.SpelledKeysLemmas.{key_bytes-short}
@@ -15,7 +16,8 @@ use Rattle.version_edits.specs.declared.line.TableLine.{TableLine}
 use Rattle.version_edits.specs.Versions.{StoreVersion, Change, IsFit}
 use Rattle.version_edits.specs.Versions.{logs_left, tables_left, log_is_before, table_is_before}
 use Rattle.configurations.specs.{config_text}
-use Rattle.version_edits.specs.Edits.{IsChange, IsTableLine, change_text, log_line_bytes}
+use Rattle.version_edits.specs.Edits.{IsChange, IsTableLine, change_text, change_text_in}
+use Rattle.version_edits.specs.Edits.{log_line_bytes}
 use Rattle.version_edits.specs.Edits.{table_name_bytes, table_line_bytes, counted_bytes}
 use Rattle.version_edits.specs.Lawful.{IsVersion, full_change}
 use Rattle.version_edits.proofs.Placed.{fold_length}
@@ -33,7 +35,8 @@ flat_bound {A} k spell (x ∷ xs) all =
     let mult : k * length (x ∷ xs) ≡ k + k * length xs = omega arith in
     omega (arith, one, others, parts, mult)
 
-table_bound : (line : TableLine) → IsTableLine line → length (table_line_bytes line) ≤ 2071
+table_bound : (line : TableLine) → IsTableLine line
+    → length (table_line_bytes formats.Two line) ≤ 2071
 unfolding table_line_bytes
 table_bound line is =
     let a = length-append (key_bytes line.least) (key_bytes line.greatest) in
@@ -61,7 +64,7 @@ counted_bound k spell xs all =
 
 pub change_is_short : (c : Change) → IsChange c → length c.logs_added ≤ MAX_LINES
     → length c.tables_added ≤ MAX_LINES → length (change_text c) ≤ MAX_RECORD
-unfolding change_text
+unfolding change_text_in
 change_is_short c is few_logs few_tables =
     let n = lengths (to_be_bytes w64 c.next_file) (to_be_bytes w64 c.floor)
     (to_be_bytes w64 c.flushed) (to_be_bytes w32 c.epoch)
@@ -69,7 +72,7 @@ change_is_short c is few_logs few_tables =
     (counted_bytes (λ file. to_be_bytes w64 file) c.logs_gone)
     (counted_bytes log_line_bytes c.logs_added)
     (counted_bytes table_name_bytes c.tables_gone)
-    (counted_bytes table_line_bytes c.tables_added) in
+    (counted_bytes (table_line_bytes formats.Two) c.tables_added) in
     let ids : length (flat_map (λ id. to_be_bytes w16 id) c.ids) ≤ 2 * length c.ids =
     flat_bound 2 (λ id. to_be_bytes w16 id) c.ids (λ k d lt. omega arith) in
     let config : length (config_text c.ids) ≤ 33 =
@@ -88,17 +91,17 @@ change_is_short c is few_logs few_tables =
     let names : length (counted_bytes table_name_bytes c.tables_gone) ≤ 2 + 9 * length c.tables_gone
     =
     counted_bound 9 table_name_bytes c.tables_gone (λ k d lt. omega arith) in
-    let tables : length (counted_bytes table_line_bytes c.tables_added) ≤ 2 + 2071 * length
-    c.tables_added =
-    counted_bound 2071 table_line_bytes c.tables_added
+    let tables : length (counted_bytes (table_line_bytes formats.Two) c.tables_added)
+    ≤ 2 + 2071 * length c.tables_added =
+    counted_bound 2071 (table_line_bytes formats.Two) c.tables_added
     (All-weaker IsTableLine (λ line.
-    length (table_line_bytes line) ≤ 2071) table_bound c.tables_added
+    length (table_line_bytes formats.Two line) ≤ 2071) table_bound c.tables_added
     is.tables_added.1) in
     let total : 8 + 8 + 8 + 4 + length (config_text c.ids)
     + length (counted_bytes (λ file. to_be_bytes w64 file) c.logs_gone)
     + length (counted_bytes log_line_bytes c.logs_added) + length
     (counted_bytes table_name_bytes c.tables_gone)
-    + length (counted_bytes table_line_bytes c.tables_added) ≤ MAX_RECORD =
+    + length (counted_bytes (table_line_bytes formats.Two) c.tables_added) ≤ MAX_RECORD =
     omega (
       arith,
       config,

@@ -1,4 +1,5 @@
 pub mod Loop
+pub mod LineLaws
 pub mod EditLaws
 pub mod Placed
 pub mod Lawful

@@ -2,9 +2,10 @@
 use Rattle.std.proofs.Common.{◌≡◌, List, ℕ, ◌++◌, Result, Ok, Err, OnOk, ◌∙◌, append_assoc}
 use Rattle.std.specs.Int.{w32, w64, to_be_bytes}
 use Rattle.configurations.specs.{config_text}
+use Rattle.byte_fields.specs.declared.format.Format.TheVariants as formats
 use Rattle.version_edits.specs.Versions.{Change}
 use Rattle.version_edits.specs.Edits.{change_text, counted_bytes, log_line_bytes, table_name_bytes}
-use Rattle.version_edits.specs.Edits.{table_line_bytes}
+use Rattle.version_edits.specs.Edits.{table_line_bytes, change_text_in}
 
 -- nine parts behind what was there
 grouped : (out a b c d ids e f g h : List ℕ) →
@@ -21,9 +22,9 @@ pub is_spelled : {T E : Type 0} (change : Change) (out numbers ids gone logs nam
     gone ≡ ids ++ counted_bytes (λ file. to_be_bytes w64 file) change.logs_gone →
     logs ≡ gone ++ counted_bytes log_line_bytes change.logs_added →
     names ≡ logs ++ counted_bytes table_name_bytes change.tables_gone →
-    OnOk result (all ≡ names ++ counted_bytes table_line_bytes change.tables_added) →
+    OnOk result (all ≡ names ++ counted_bytes (table_line_bytes formats.Two) change.tables_added) →
     OnOk result (all ≡ out ++ change_text change)
-unfolding change_text
+unfolding change_text_in
 is_spelled change out numbers ids gone logs names all (Ok x) a b c d e f =
     f ∙ rw (e, d, c, b, a) (grouped out (to_be_bytes w64 change.next_file)
     (to_be_bytes w64 change.floor) (to_be_bytes w64 change.flushed)
@@ -31,7 +32,7 @@ is_spelled change out numbers ids gone logs names all (Ok x) a b c d e f =
     (counted_bytes (λ file. to_be_bytes w64 file) change.logs_gone)
     (counted_bytes log_line_bytes change.logs_added)
     (counted_bytes table_name_bytes change.tables_gone)
-    (counted_bytes table_line_bytes change.tables_added))
+    (counted_bytes (table_line_bytes formats.Two) change.tables_added))
 is_spelled change out numbers ids gone logs names all (Err e') a b c d e f = tt
 
 -- two and three parts

@@ -1,6 +1,7 @@
 -- The laws of the definitions that contracts use.
 use Rattle.std.specs.Prelude.{◌≡◌, ◌≤◌, ◌^◌, List, length}
 use Rattle.record_log.specs.declared.log.TheConstants.{MAX_RECORD}
+use Rattle.byte_fields.specs.declared.format.Format.{Format}
 use Rattle.version_edits.specs.declared.line.TheConstants.{MAX_LINES, MAX_NEXT}
 use Rattle.version_edits.specs.Versions.{Change, IsFit, StoreVersion, after_all, changed, empty}
 use Rattle.version_edits.specs.Edits.{IsChange, change_text}
@@ -19,7 +20,7 @@ FitEditsAreShort = (version : StoreVersion) (change : Change) → IsFit version 
 
 -- edits of which each may be taken give a version
 abbrev pub HistoriesAreLawful : Type 0
-HistoriesAreLawful = (changes : List Change) → IsEditHistory changes →
+HistoriesAreLawful = (format : Format) (changes : List Change) → IsEditHistory format changes →
     IsVersion (after_all empty changes)
 
 -- the bounds of a version, as numbers: of its next file and the first number of a log, and how many

@@ -6,8 +6,8 @@ pub mod Reading
 pub mod Replays
 pub mod Laws
 -- What crates above name.
-pub use Rattle.version_edits.specs.Edits.{ChangesDiffer, IsChange, IsLogLine, IsTableLine}
-pub use Rattle.version_edits.specs.Edits.{change_text}
+pub use Rattle.version_edits.specs.Edits.{ChangesDiffer, HasRowKeys, IsChange, IsChangeIn}
+pub use Rattle.version_edits.specs.Edits.{IsLogLine, IsTableLine, change_text, change_text_in}
 pub use Rattle.version_edits.specs.Laws.{EditsKeepVersions, FitEditsAreShort, HistoriesAreLawful}
 pub use Rattle.version_edits.specs.Lawful.{IsFullEdit, IsVersion, full_change}
 pub use Rattle.version_edits.specs.Replays.{IsEditHistory}

@@ -6,10 +6,11 @@ use Rattle.std.specs.Int.{w8, w16, w32, w64}
 use Rattle.std.specs.Ordering.{is_lt}
 use Rattle.byte_fields.specs.{Reader, both, mapped, only, counted, number_at, ◌>>=◌}
 use Rattle.configurations.specs.{is_config}
-use Rattle.byte_fields.specs.{StoredKey, key_at, stored_cmp}
+use Rattle.byte_fields.specs.{StoredKey, key_at_in, stored_cmp}
 use Rattle.kv_types.specs.declared.bounds.TheConstants.{MAX_NUMBER}
 use Rattle.version_edits.specs.declared.error.EditError.{EditError}
 use Rattle.version_edits.specs.declared.error.EditError.TheVariants as edit_error
+use Rattle.byte_fields.specs.declared.format.Format.{Format}
 use Rattle.version_edits.specs.declared.line.TheConstants.{MAX_NEXT}
 use Rattle.version_edits.specs.declared.line.LogLine.{LogLine}
 use Rattle.version_edits.specs.declared.line.TableName.{TableName}
@@ -80,10 +81,10 @@ abbrev pub has_range : TableLine → Bool
 has_range line = not (is_lt (stored_cmp line.greatest line.least))
 
 -- a table's line: level, file, length, least and greatest key, in this order
-unfoldable pub table_line_at : Reader TableLine
-table_line_at bytes =
+unfoldable pub table_line_at : Format → Reader TableLine
+table_line_at format bytes =
     only has_range (mapped as_table (both (both level_field (both count_field count_field))
-    (both key_at key_at))) bytes
+    (both (key_at_in format) (key_at_in format)))) bytes
 
 -- ---- an edit
 
@@ -100,8 +101,8 @@ unfoldable pub names_at : Reader (List TableName)
 names_at bytes = counted (number_at w16) table_name_at bytes
 
 -- lines of tables, behind how many they are
-unfoldable pub tables_at : Reader (List TableLine)
-tables_at bytes = counted (number_at w16) table_line_at bytes
+unfoldable pub tables_at : Format → Reader (List TableLine)
+tables_at format bytes = counted (number_at w16) (table_line_at format) bytes
 
 -- the fields of an edit, one behind the other
 abbrev pub Fields : Type 0
@@ -123,14 +124,16 @@ as_change x = record {
 }
 
 -- an edit at the front of bytes: three numbers, the epoch, the ids and four lists
-unfoldable pub change_front : Reader Change
-change_front bytes =
+unfoldable pub change_front : Format → Reader Change
+change_front format bytes =
     mapped as_change (both next_field (both count_field (both count_field (both epoch_field
-    (both config_field (both files_at (both logs_at (both names_at tables_at)))))))) bytes
+    (both config_field (both files_at (both logs_at (both names_at (tables_at format)))))))))
+    bytes
 
 -- an edit that is all of the bytes
-unfoldable pub change_of : List ℕ → Option Change
-change_of bytes = change_front bytes >>= λ x. if length x.1 == 0 then Some x.0 else None
+unfoldable pub change_of : Format → List ℕ → Option Change
+change_of format bytes =
+    change_front format bytes >>= λ x. if length x.1 == 0 then Some x.0 else None
 
 -- ---- what functions return
 

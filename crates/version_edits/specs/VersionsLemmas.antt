@@ -4,7 +4,8 @@ use Rattle.std.proofs.lemmas.Bool.{le-ltb}
 use Rattle.std.proofs.lemmas.List.Elements.{All-head, All-tail, All-weaker}
 use Rattle.version_edits.specs.declared.line.LogLine.{LogLine}
 use Rattle.version_edits.specs.declared.line.TableLine.{TableLine}
-use Rattle.version_edits.specs.Edits.{change_text}
+use Rattle.byte_fields.specs.declared.format.Format.{Format}
+use Rattle.version_edits.specs.Edits.{change_text_in}
 use Rattle.version_edits.specs.Versions.{AreFit, Change, IsFit, StoreVersion, after_all, changed}
 use Rattle.version_edits.specs.Versions.{log_is_before, logs_left, placed, tables_left, with_log}
 
@@ -50,8 +51,9 @@ fit_push v [] one fit last = (last, tt)
 fit_push v (first ∷ others) one fit last = (fit.0, fit_push (changed v first) others one fit.1 last)
 
 -- their spellings are one more
-pub map_push : (changes : List Change) (one : Change)
-    → map change_text (changes ++ one ∷ []) ≡ map change_text changes ++ change_text one ∷ []
-map_push [] one = refl
-map_push (first ∷ others) one =
-    ap (λ (l : List (List ℕ)). change_text first ∷ l) (map_push others one)
+pub map_push : (format : Format) (changes : List Change) (one : Change)
+    → map (change_text_in format) (changes ++ one ∷ [])
+    ≡ map (change_text_in format) changes ++ change_text_in format one ∷ []
+map_push format [] one = refl
+map_push format (first ∷ others) one =
+    ap (λ (l : List (List ℕ)). change_text_in format first ∷ l) (map_push format others one)

@@ -6,7 +6,7 @@ ghost use Rattle.version_edits.specs.Laws.{LineBoundsAre};
 
 use configurations::laws::test_decides_config;
 
-/// No two edits have one spelling.
+/// No two edits have one spelling in a format.
 pub fn changes_differ()
     ensures { ChangesDiffer }
 {

@@ -2,10 +2,10 @@
 // behind what it read.
 ghost use Rattle.std.specs.Prelude.{◌≡◌, IfOk, IsErrOf, option_map};
 ghost use Rattle.std.specs.Int.{w16, w32, w64};
-ghost use Rattle.byte_fields.specs.{key_at};
+ghost use Rattle.byte_fields.specs.{key_at_in};
 ghost use Rattle.byte_fields.specs.{many, number_at};
 ghost use Rattle.version_edits.specs.Versions.{Change};
-ghost use Rattle.version_edits.specs.Edits.{IsChange, change_text};
+ghost use Rattle.version_edits.specs.Edits.{IsChange, IsChangeIn, change_text_in};
 ghost use Rattle.version_edits.specs.Reading.{ReadsChangeField, ReadsChange, items_read};
 ghost use Rattle.version_edits.specs.Reading.{byte_field, count_field, next_field, first_field};
 ghost use Rattle.version_edits.specs.Reading.{epoch_field, level_field, config_field};
@@ -15,7 +15,7 @@ ghost use Rattle.version_edits.specs.Reading.{logs_at, names_at, tables_at};
 ghost use Rattle.version_edits.specs.Reading.{change_front, change_of};
 
 use crate::{EditError, LogLine, MAX_NEXT, TableLine, TableName, VersionEdit};
-use byte_fields::{StoredKey, read_u16, read_u32, read_u64};
+use byte_fields::{Format, StoredKey, read_u16, read_u32, read_u64};
 use configurations::Config;
 use configurations::laws::test_decides_config;
 use kv_types::bounds::MAX_NUMBER;
@@ -117,10 +117,10 @@ fn level_of(bytes: &mut &[u8]) -> Result<u8, EditError>
     Ok(number)
 }
 
-fn key_of(alloc: Global, bytes: &mut &[u8]) -> Result<StoredKey, EditError>
-    ensures { ReadsChangeField result bytes.new.now (key_at bytes.old.now) }
+fn key_of(alloc: Global, format: Format, bytes: &mut &[u8]) -> Result<StoredKey, EditError>
+    ensures { ReadsChangeField result bytes.new.now (key_at_in format bytes.old.now) }
 {
-    match StoredKey::read_from(alloc, bytes)? {
+    match StoredKey::read_from(alloc, format, bytes)? {
         Some((read, rest)) => {
             *bytes = rest;
             Ok(read)
@@ -226,14 +226,14 @@ fn names_of(alloc: Global, bytes: &mut &[u8]) -> Result<Vec<TableName>, EditErro
 }
 
 #[tactic(auto, unfolding(crate::specs::Reading::table_line_at))]
-fn table_of(alloc: Global, bytes: &mut &[u8]) -> Result<TableLine, EditError>
-    ensures { ReadsChangeField result bytes.new.now (table_line_at bytes.old.now) }
+fn table_of(alloc: Global, format: Format, bytes: &mut &[u8]) -> Result<TableLine, EditError>
+    ensures { ReadsChangeField result bytes.new.now (table_line_at format bytes.old.now) }
 {
     let level = level_of(bytes)?;
     let file = count_of(bytes)?;
     let length = count_of(bytes)?;
-    let least = key_of(alloc, bytes)?;
-    let greatest = key_of(alloc, bytes)?;
+    let least = key_of(alloc, format, bytes)?;
+    let greatest = key_of(alloc, format, bytes)?;
     if greatest < least {
         return Err(EditError::Damaged);
     }
@@ -246,28 +246,33 @@ fn table_of(alloc: Global, bytes: &mut &[u8]) -> Result<TableLine, EditError>
     })
 }
 
-fn tables_in(alloc: Global, count: u16, bytes: &mut &[u8]) -> Result<Vec<TableLine>, EditError>
+fn tables_in(
+    alloc: Global,
+    format: Format,
+    count: u16,
+    bytes: &mut &[u8],
+) -> Result<Vec<TableLine>, EditError>
     ensures { ReadsChangeField (items_read result) bytes.new.now
-        (many table_line_at count bytes.old.now) }
+        (many (table_line_at format) count bytes.old.now) }
 {
     let mut lines = Vec::new(alloc);
     for _ in 0..count {
-        lines.push(table_of(alloc, bytes)?)?;
+        lines.push(table_of(alloc, format, bytes)?)?;
     }
     Ok(lines)
 }
 
 #[tactic(auto, unfolding(crate::specs::Reading::tables_at))]
-fn tables_of(alloc: Global, bytes: &mut &[u8]) -> Result<Vec<TableLine>, EditError>
-    ensures { ReadsChangeField (items_read result) bytes.new.now (tables_at bytes.old.now) }
+fn tables_of(alloc: Global, format: Format, bytes: &mut &[u8]) -> Result<Vec<TableLine>, EditError>
+    ensures { ReadsChangeField (items_read result) bytes.new.now (tables_at format bytes.old.now) }
 {
     let count = u16_of(bytes)?;
-    tables_in(alloc, count, bytes)
+    tables_in(alloc, format, count, bytes)
 }
 
 #[tactic(auto, unfolding(crate::specs::Reading::change_front))]
-fn edit_at(alloc: Global, bytes: &mut &[u8]) -> Result<VersionEdit, EditError>
-    ensures { ReadsChangeField result bytes.new.now (change_front bytes.old.now) }
+fn edit_at(alloc: Global, format: Format, bytes: &mut &[u8]) -> Result<VersionEdit, EditError>
+    ensures { ReadsChangeField result bytes.new.now (change_front format bytes.old.now) }
 {
     let next_file = next_of(bytes)?;
     let floor = count_of(bytes)?;
@@ -277,7 +282,7 @@ fn edit_at(alloc: Global, bytes: &mut &[u8]) -> Result<VersionEdit, EditError>
     let logs_gone = files_of(alloc, bytes)?;
     let logs_added = logs_of(alloc, bytes)?;
     let tables_gone = names_of(alloc, bytes)?;
-    let tables_added = tables_of(alloc, bytes)?;
+    let tables_added = tables_of(alloc, format, bytes)?;
     Ok(VersionEdit {
         next_file,
         floor,
@@ -292,23 +297,25 @@ fn edit_at(alloc: Global, bytes: &mut &[u8]) -> Result<VersionEdit, EditError>
 }
 
 #[tactic(auto, unfolding(crate::specs::Reading::change_of))]
-fn all_of(alloc: Global, bytes: &[u8]) -> Result<VersionEdit, EditError>
-    ensures { ReadsChange result (change_of bytes.now) }
+fn all_of(alloc: Global, format: Format, bytes: &[u8]) -> Result<VersionEdit, EditError>
+    ensures { ReadsChange result (change_of format bytes.now) }
 {
     let mut rest = bytes;
-    let edit = edit_at(alloc, &mut rest)?;
+    let edit = edit_at(alloc, format, &mut rest)?;
     if !rest.is_empty() {
         return Err(EditError::Damaged);
     }
     Ok(edit)
 }
 
-/// The edit that is all of the bytes.
-pub fn edit_of(alloc: Global, bytes: &[u8]) -> Result<VersionEdit, EditError>
-    ensures found { IfOk result (λ edit. IsChange edit × (bytes.now ≡ change_text edit)) }
-    ensures bad { IsErrOf result EditError.Damaged → (change : Change) → IsChange change →
-        bytes.now ≡ change_text change → ⊥ }
+/// The edit that is all of the bytes, in this format.
+pub fn edit_of(alloc: Global, format: Format, bytes: &[u8]) -> Result<VersionEdit, EditError>
+    ensures found { IfOk result (λ edit. IsChangeIn format edit
+        × (bytes.now ≡ change_text_in format edit)) }
+    ensures bad { IsErrOf result EditError.Damaged → (change : Change) → IsChangeIn format change →
+        bytes.now ≡ change_text_in format change → ⊥ }
+    ensures is { IfOk result IsChange }
 {
     test_decides_config(); // law: the test succeeds exactly for the configurations
-    all_of(alloc, bytes)
+    all_of(alloc, format, bytes)
 }

@@ -5,6 +5,7 @@ ghost use Rattle.std.specs.Int.{w16, w32, w64, to_be_bytes};
 ghost use Rattle.version_edits.specs.Lawful.{IsFullEdit, IsVersion, full_change};
 ghost use Rattle.version_edits.specs.Edits.{IsChange, change_text, counted_bytes, log_line_bytes};
 ghost use Rattle.version_edits.specs.Edits.{table_head_bytes, table_line_bytes, table_name_bytes};
+ghost use Rattle.byte_fields.specs.declared.format.Format.TheVariants.{Two};
 
 use crate::{LogLine, StoreVersion, TableLine, TableName, VersionEdit};
 use byte_fields::{put_u32, put_u64};
@@ -71,7 +72,7 @@ fn put_table_head(out: &mut Vec<u8>, line: &TableLine) -> Result<(), AllocError>
 }
 
 fn put_table(out: &mut Vec<u8>, line: &TableLine) -> Result<(), AllocError>
-    ensures { OnOk result (out.new.items ≡ out.old.items ++ table_line_bytes line.now) }
+    ensures { OnOk result (out.new.items ≡ out.old.items ++ table_line_bytes Two line.now) }
 {
     put_table_head(out, line)?;
     line.least.spell_into(out)?;
@@ -82,7 +83,7 @@ fn put_table(out: &mut Vec<u8>, line: &TableLine) -> Result<(), AllocError>
 fn put_tables(out: &mut Vec<u8>, lines: &[TableLine]) -> Result<(), AllocError>
     requires { length lines.now < 2 ^ 16 }
     ensures { OnOk result (out.new.items ≡
-        out.old.items ++ counted_bytes table_line_bytes lines.now) }
+        out.old.items ++ counted_bytes (table_line_bytes Two) lines.now) }
 {
     put_count(out, lines.len())?;
     for line in lines {

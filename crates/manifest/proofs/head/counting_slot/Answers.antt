@@ -1,7 +1,9 @@
 use Rattle.std.proofs.Common.{Option, List, ℕ, ap, inl, refl, subst, ◌∙◌, inr, rules}
+use Rattle.std.proofs.lemmas.Result.{err_from_is_err_and}
 use Rattle.disk.specs.{seen}
 use Rattle.disk.specs.StillLemmas.{still_more}
 use Rattle.manifest.specs.Heads.{HeadIs}
+use Rattle.manifest.proofs.Causes.{environment_causes, heads_cause}
 use Rattle.manifest.proofs.Heads.{counted_by}
 use Rattle.manifest.proofs.head.counting_slot.Goals as goal
 
@@ -34,3 +36,19 @@ returns-clause-counts g c = λ left honest read.
     (c.in_ok-second.ensures.is (c.head_of.ensures.reads.kept.honest.1 honest)) in
     counted_by left c.in_ok-first.first c.in_ok-second.second first second c.counting.result
     c.counting.ensures
+
+-- why none counts, of any disk
+pub returns-in_err-first-clause-causes : goal.returns-in_err-first-clause-causes
+returns-in_err-first-clause-causes g c =
+    let p = err_from_is_err_and c.from_residual.result c.from_residual.ensures.1 in
+    rw (p.1, p.2) (environment_causes c.in_err-first.field-0.0 c.in_err-first.ensures.is)
+
+pub returns-in_err-second-clause-causes : goal.returns-in_err-second-clause-causes
+returns-in_err-second-clause-causes g c =
+    let p = err_from_is_err_and c.from_residual-in_err-second.result
+    c.from_residual-in_err-second.ensures.1 in
+    rw (p.1, p.2) (environment_causes c.in_err-second.field-0.0 c.in_err-second.ensures.is)
+
+pub returns-clause-causes : goal.returns-clause-causes
+returns-clause-causes g c =
+    heads_cause c.in_ok-first.first c.in_ok-second.second c.counting.result c.counting.ensures

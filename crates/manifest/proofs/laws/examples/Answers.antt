@@ -1,9 +1,9 @@
 use Rattle.std.proofs.Common.{◌≡◌, ℕ, List, ap, arith, get_or, refl}
-use Rattle.version_edits.specs.Edits.{change_text, table_line_bytes}
+use Rattle.version_edits.specs.Edits.{table_line_bytes, change_text_in}
 use Rattle.manifest.proofs.laws.examples.Goals as goal
 
 pub returns-clause-slot : goal.returns-clause-slot
-unfolding change_text
+unfolding change_text_in
 returns-clause-slot c = refl
 
 -- at place 9 is the id, and in format 2 there is 0
@@ -16,4 +16,4 @@ returns-clause-old c = (
 
 pub returns-clause-table : goal.returns-clause-table
 unfolding table_line_bytes
-returns-clause-table c = (refl, refl)
+returns-clause-table c = (refl, refl, refl)

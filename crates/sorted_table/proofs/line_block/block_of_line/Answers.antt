@@ -16,7 +16,8 @@ returns-in_err-block-clause-answers g c = λ honest.
     let line = c.index-lines-number.result in
     let at = slice_get_read lines (length lines) c.args.number line refl c.requires
     c.index-lines-number.is in
-    let why = unread_line (g.D.Disk.state c.args.files.now.disk) c.args.file lines c.args.number
+    let why = unread_line c.args.format (g.D.Disk.state c.args.files.now.disk) c.args.file lines
+    c.args.number
     line
     c.in_err-block.field-0.0 at (c.in_err-block.ensures.answers honest) in
     let p = err_from_is_err_and c.from_residual.result c.from_residual.ensures.1 in
@@ -34,7 +35,8 @@ returns-then-not-is_at_line-clause-answers g c = λ honest.
     let line = c.index-lines-number.result in
     let at = slice_get_read lines (length lines) c.args.number line refl c.requires
     c.index-lines-number.is in
-    misplaced (g.D.Disk.state c.args.files.now.disk) c.args.file lines c.args.number line
+    misplaced c.args.format (g.D.Disk.state c.args.files.now.disk) c.args.file lines c.args.number
+    line
     c.in_ok-block.block at (c.in_ok-block.ensures.answers honest)
     (λ entries is lies.
     let yes = (c.is_at_line.ensures entries is).1 lies in
@@ -46,7 +48,7 @@ returns-clause-answers g c = λ honest.
     let line = c.index-lines-number.result in
     let at = slice_get_read lines (length lines) c.args.number line refl c.requires
     c.index-lines-number.is in
-    placed (g.D.Disk.state c.args.files.now.disk) c.args.file lines c.args.number line
+    placed c.args.format (g.D.Disk.state c.args.files.now.disk) c.args.file lines c.args.number line
     c.in_ok-block.block at (c.in_ok-block.ensures.answers honest)
     (λ entries is. (c.is_at_line.ensures entries is).0 (search rules))
 
@@ -76,5 +78,14 @@ returns-clause-len g c = λ line here.
     let lines = c.args.lines.now in
     let at = slice_get_read lines (length lines) c.args.number c.index-lines-number.result refl
     c.requires c.index-lines-number.is in
-    c.in_ok-block.ensures.len
+    c.in_ok-block.ensures.len.0
     ∙ ap (λ (l : IndexLine). l.len) (some_is c.index-lines-number.result line (sym at ∙ here))
+
+pub returns-in_err-block-clause-read_in : goal.returns-in_err-block-clause-read_in
+returns-in_err-block-clause-read_in g c = grind (arith, common_steps)
+
+pub returns-then-not-is_at_line-clause-read_in : goal.returns-then-not-is_at_line-clause-read_in
+returns-then-not-is_at_line-clause-read_in g c = grind (arith, common_steps)
+
+pub returns-clause-read_in : goal.returns-clause-read_in
+returns-clause-read_in g c = c.in_ok-block.ensures.len.1

@@ -11,7 +11,9 @@ returns-clause-splits c = λ entries rising is.
     let starts = c.args.starts.now in
     let place = spot (lent_key c.args.key) c.args.number in
     let n = c.partition_point.result in
-    splits block starts entries place n is c.partition_point.ensures.bound
-    (IsPartitionPoint-from_clause (is_early_start block place) starts n
-    c.partition_point.ensures.partitioned (partitioned block starts entries place rising is)
+    let format = c.args.format in
+    splits format block starts entries place n is c.partition_point.ensures.bound
+    (IsPartitionPoint-from_clause (is_early_start format block place) starts n
+    c.partition_point.ensures.partitioned (partitioned format block starts entries place rising
+    is)
     (λ a r f' k. search rules))

@@ -22,9 +22,9 @@ returns-in_err-block-clause-damaged g c = λ is honest t.
     let p = err_from_is_err_and c.from_residual.result c.from_residual.ensures.1 in
     let e = c.in_err-block.field-0.0 in
     let damaged : e ≡ reading.Damaged = cc (p.1, p.2) in
-    never_damaged (disk c.args.file) lines t n at.0 e
-    (block_of_line disk c.args.file lines n at.0 t c.requires at.1) at.1
-    (subst (λ l. LineBlockAnswer l n (disk c.args.file) (Err e)) c.deref.ensures.value
+    never_damaged c.args.format (disk c.args.file) lines t n at.0 e
+    (block_of_line c.args.format disk c.args.file lines n at.0 t c.requires at.1) at.1
+    (subst (λ l. LineBlockAnswer c.args.format l n (disk c.args.file) (Err e)) c.deref.ensures.value
     (c.in_err-block.ensures.answers honest)) damaged
 
 pub returns-clause-first : goal.returns-clause-first
@@ -42,14 +42,17 @@ returns-clause-reads g c = λ m honest agree t.
     let lines = rc_slice_items c.args.lines.now in
     let n = c.args.line in
     let at = some_of lines n c.requires in
-    let b = block_of_line disk c.args.file lines n at.0 t c.requires at.1 in
-    let read = subst (λ l. IsBlockAtLine l n (g.D.Disk.state c.args.files.now.disk c.args.file)
+    let b = block_of_line c.args.format disk c.args.file lines n at.0 t c.requires at.1 in
+    let read = subst (λ l. IsBlockAtLine c.args.format l n
+    (g.D.Disk.state c.args.files.now.disk c.args.file)
     (rc_slice_items c.in_ok-block.block.bytes)) c.deref.ensures.value
     (c.in_ok-block.ensures.answers honest) in
-    let right = block_answer disk c.args.file lines n at.0 t b (Ok c.in_ok-block.block)
-    (line_read disk c.args.file lines n at.0 c.in_ok-block.block at.1
+    let right = block_answer c.args.format disk c.args.file lines n at.0 t b
+    (Ok c.in_ok-block.block)
+    (line_read c.args.format disk c.args.file lines n at.0 c.in_ok-block.block
+    c.in_ok-block.ensures.read_in at.1
     (agree n (rc_slice_items c.in_ok-block.block.bytes) read)) in
-    rw c.ok_or.ensures.value (place_in disk c.args.file lines n at.0 t b c.new.result
+    rw c.ok_or.ensures.value (place_in c.args.format disk c.args.file lines n at.0 t b c.new.result
     c.new.ensures.first (c.new.ensures.entries (block_entries b.block) right))
 
 pub returns-clause-damaged : goal.returns-clause-damaged
@@ -58,11 +61,13 @@ returns-clause-damaged g c = λ is honest t.
     let lines = rc_slice_items c.args.lines.now in
     let n = c.args.line in
     let at = some_of lines n c.requires in
-    let b = block_of_line disk c.args.file lines n at.0 t c.requires at.1 in
-    let read = subst (λ l. IsBlockAtLine l n (disk c.args.file)
+    let b = block_of_line c.args.format disk c.args.file lines n at.0 t c.requires at.1 in
+    let read = subst (λ l. IsBlockAtLine c.args.format l n (disk c.args.file)
     (rc_slice_items c.in_ok-block.block.bytes)) c.deref.ensures.value
     (c.in_ok-block.ensures.answers honest) in
-    let right = block_answer disk c.args.file lines n at.0 t b (Ok c.in_ok-block.block)
-    (line_read disk c.args.file lines n at.0 c.in_ok-block.block at.1 read) in
+    let right = block_answer c.args.format disk c.args.file lines n at.0 t b
+    (Ok c.in_ok-block.block)
+    (line_read c.args.format disk c.args.file lines n at.0 c.in_ok-block.block
+    c.in_ok-block.ensures.read_in at.1 read) in
     places_are_right (λ place. PlaceReads place (block_entries b.block)) c.new.result
     (sym c.ok_or.ensures.value ∙ is) (c.new.ensures.entries (block_entries b.block) right)

@@ -9,42 +9,42 @@ use Rattle.sorted_table.proofs.tail.read_tail.Goals as goal
 
 -- the footer was not read
 pub returns-in_err-footer-clause-tail : goal.returns-in_err-footer-clause-tail
-returns-in_err-footer-clause-tail g c = λ bytes entries s honest there.
-    let long = long_enough bytes entries s in
+returns-in_err-footer-clause-tail g c = λ format bytes entries s honest there.
+    let long = long_enough format bytes entries s in
     let why = c.in_err-footer.ensures.footer bytes honest there (omega (arith, long)) in
     let p = err_from_is_err_and c.from_residual.result c.from_residual.ensures.1 in
     rw (p.1, p.2) why
 
 -- a footer of a table is one
 pub returns-in_default-clause-tail : goal.returns-in_default-clause-tail
-returns-in_default-clause-tail g c = λ bytes entries s honest there.
-    let long = long_enough bytes entries s in
+returns-in_default-clause-tail g c = λ format bytes entries s honest there.
+    let long = long_enough format bytes entries s in
     let foot = c.in_ok-footer.ensures.footer bytes honest there in
-    absurd (c.in_default.ensures.tail bytes entries s foot.0 foot.1)
+    absurd (c.in_default.ensures.tail format bytes entries s foot.0 foot.1)
 
 -- the tail was not read
 pub returns-in_err-bytes-clause-tail : goal.returns-in_err-bytes-clause-tail
-returns-in_err-bytes-clause-tail g c = λ bytes entries s honest there.
-    let long = long_enough bytes entries s in
+returns-in_err-bytes-clause-tail g c = λ format bytes entries s honest there.
+    let long = long_enough format bytes entries s in
     let foot = c.in_ok-footer.ensures.footer bytes honest there in
-    let tail = c.in-Some.ensures.tail bytes entries s foot.0 foot.1 in
+    let tail = c.in-Some.ensures.tail format bytes entries s foot.0 foot.1 in
     let there' = ap seen (c.read_footer.ensures.device.kept.files honest c.args.file) ∙ there in
     let why = c.in_err-bytes.ensures.read bytes
     (c.read_footer.ensures.device.kept.honest.1 honest) there'
-    (tail_within bytes entries s c.in-Some.tail tail) in
+    (tail_within format bytes entries s c.in-Some.tail tail) in
     let p = err_from_is_err_and c.from_residual-in_err-bytes.result
     c.from_residual-in_err-bytes.ensures.1 in
     rw (p.1, p.2) why
 
 pub returns-clause-tail : goal.returns-clause-tail
-returns-clause-tail g c = λ bytes entries s honest there.
-    let long = long_enough bytes entries s in
+returns-clause-tail g c = λ format bytes entries s honest there.
+    let long = long_enough format bytes entries s in
     let foot = c.in_ok-footer.ensures.footer bytes honest there in
-    let tail = c.in-Some.ensures.tail bytes entries s foot.0 foot.1 in
+    let tail = c.in-Some.ensures.tail format bytes entries s foot.0 foot.1 in
     let there' = ap seen (c.read_footer.ensures.device.kept.files honest c.args.file) ∙ there in
     let read = c.in_ok-bytes.ensures.read bytes
     (c.read_footer.ensures.device.kept.honest.1 honest) there' in
-    (read ∙ tail_at bytes entries s c.in-Some.tail tail, tail)
+    (read ∙ tail_at format bytes entries s c.in-Some.tail tail, tail)
 
 pub returns-in_err-bytes-clause-device : goal.returns-in_err-bytes-clause-device
 returns-in_err-bytes-clause-device g c = record {

@@ -5,25 +5,26 @@ use Rattle.sorted_table.proofs.TailsLemmas.{footer_here, placed, tail_by}
 use Rattle.sorted_table.proofs.tail.tail_of.Goals as goal
 
 pub returns-in_err-footer-clause-tail : goal.returns-in_err-footer-clause-tail
-returns-in_err-footer-clause-tail c = λ bytes entries s is there.
-    absurd (c.in_err-footer.ensures (table_footer s.blocks s.filter)
-    (footer_here bytes entries s c.args.end c.args.footer.now is there))
+returns-in_err-footer-clause-tail c = λ format bytes entries s is there.
+    absurd (c.in_err-footer.ensures (table_footer format s.blocks s.filter)
+    (footer_here format bytes entries s c.args.end c.args.footer.now is there))
 
 refused : (r : Bool) → r ≡ false → IsTrue r → ⊥
 refused r e h = absurd cc
 
 pub returns-then-not-are_placed-clause-tail : goal.returns-then-not-are_placed-clause-tail
-returns-then-not-are_placed-clause-tail c = λ bytes entries s is there.
-    let same = c.in_ok-footer.ensures.1 (table_footer s.blocks s.filter)
-    (footer_here bytes entries s c.args.end c.args.footer.now is there) in
+returns-then-not-are_placed-clause-tail c = λ format bytes entries s is there.
+    let same = c.in_ok-footer.ensures.1 (table_footer format s.blocks s.filter)
+    (footer_here format bytes entries s c.args.end c.args.footer.now is there) in
     absurd (refused c.are_placed.result c.if-not-are_placed.true
-    (c.are_placed.ensures.1 (placed bytes entries s c.args.end c.in_ok-footer.footer is same)))
+    (c.are_placed.ensures.1
+    (placed format bytes entries s c.args.end c.in_ok-footer.footer is same)))
 
 pub returns-clause-tail : goal.returns-clause-tail
-returns-clause-tail c = λ bytes entries s is there.
-    let same = c.in_ok-footer.ensures.1 (table_footer s.blocks s.filter)
-    (footer_here bytes entries s c.args.end c.args.footer.now is there) in
-    tail_by bytes entries s c.args.end c.in_ok-footer.footer _ is same refl refl refl
+returns-clause-tail c = λ format bytes entries s is there.
+    let same = c.in_ok-footer.ensures.1 (table_footer format s.blocks s.filter)
+    (footer_here format bytes entries s c.args.end c.args.footer.now is there) in
+    tail_by format bytes entries s c.args.end c.in_ok-footer.footer _ is same refl refl refl refl
 
 -- the footer that was read says so
 pub returns-clause-says : goal.returns-clause-says
@@ -41,6 +42,7 @@ returns-clause-says c =
       index_len = end;
       ends = omega (arith, index, end);
       within = omega (arith, index, end);
+      read_in = refl;
     }
 
 -- where it is none, no footer says where a tail stands

@@ -57,7 +57,7 @@ returns-clause-calls g c = λ honest.
 pub returns-in_err-read-clause-answers : goal.returns-in_err-read-clause-answers
 returns-in_err-read-clause-answers g c = λ honest.
     refused c.in_err-read.field-0.0 (g.D.Disk.state c.args.disk.now) c.args.file c.args.place
-    c.args.len c.from_residual-in_err-read.result (search rules)
+    c.args.len c.args.format c.from_residual-in_err-read.result (search rules)
     (subst (λ (n : ℕ). IsRefusalOf c.in_err-read.field-0.0 (g.D.Disk.state c.args.disk.now)
     c.args.file (c.args.place + n)) (c.deref_mut.ensures.len ∙ c.in_ok-bytes.ensures.len)
     (c.in_err-read.ensures.reads honest))
@@ -71,7 +71,8 @@ returns-then-is_none-clause-answers g c = λ honest part len at.
     let is = read_is (seen (g.D.Disk.state c.args.disk.now c.args.file)) c.args.place
     (length c.deref_mut.result.now) c.read.new.into (c.in_ok-read.ensures.reads honest) part
     (len ∙ sym (c.deref_mut.ensures.len ∙ c.in_ok-bytes.ensures.len)) at.0 in
-    none_is_block c.entries_of.result
-    (λ entries text. text.now ≡ entries_bytes entries) c.deref.result.now c.if-is_none.ensures
+    none_is_block c.args.format c.entries_of.result
+    (λ entries text. text.now ≡ entries_bytes c.args.format entries) c.deref.result.now
+    c.if-is_none.ensures
     c.entries_of.ensures.one
-    (subst (λ (p : List ℕ). ∥ IsCheckedBlock p ∥₁) (is ∙ sym same) at.1)
+    (subst (λ (p : List ℕ). ∥ IsCheckedBlock c.args.format p ∥₁) (is ∙ sym same) at.1)

@@ -22,7 +22,8 @@ returns-in_err-count-clause-one c = λ entries b.
 
 pub loop-last-init : goal.loop-last-init
 loop-last-init c = record {
-  read = entries_begin c.in_ok-count.entries.now (text_fits c.in_ok-content.content.now _ _
+  read = entries_begin c.args.format c.in_ok-count.entries.now
+      (text_fits c.in_ok-content.content.now _ _
       (content_fits c.args.part.now c.in_ok-content.content.now
       (λ i. omega (arith, c.type_inv.part i)) c.in_ok-content.ensures.sealed)
       c.in_ok-count.ensures);
@@ -31,11 +32,11 @@ loop-last-init c = record {
 
 pub returns-in_err-entry-clause-one : goal.returns-in_err-entry-clause-one
 returns-in_err-entry-clause-one c = λ entries b.
-    let w = block_spells c.args.part.now c.in_ok-content.content.now _ _
+    let w = block_spells c.args.format c.args.part.now c.in_ok-content.content.now _ _
     c.in_ok-content.ensures.sealed c.in_ok-count.ensures entries b in
     let rest = c.loop-last.rest.now in
     let some = not_empty (length rest) c.is_empty.result c.is_empty.ensures c.loop-last-test.true in
-    absurd (no_entry c.in_ok-count.entries.now rest _ _ _ c.args.part.now entries
+    absurd (no_entry c.args.format c.in_ok-count.entries.now rest _ _ _ c.args.part.now entries
     c.loop-last.invariant.read w b some c.in_err-entry.ensures)
 
 off : (r : Bool) → r ≡ false → IsTrue r → ⊥
@@ -43,11 +44,11 @@ off r e h = absurd cc
 
 pub returns-then-seen-count-clause-one : goal.returns-then-seen-count-clause-one
 returns-then-seen-count-clause-one c = λ entries b.
-    let w = block_spells c.args.part.now c.in_ok-content.content.now _ _
+    let w = block_spells c.args.format c.args.part.now c.in_ok-content.content.now _ _
     c.in_ok-content.ensures.sealed c.in_ok-count.ensures entries b in
     let rest = c.loop-last.rest.now in
     let some = not_empty (length rest) c.is_empty.result c.is_empty.ensures c.loop-last-test.true in
-    let n = next_entry c.in_ok-count.entries.now rest _ _ _ c.args.part.now entries
+    let n = next_entry c.args.format c.in_ok-count.entries.now rest _ _ _ c.args.part.now entries
     (lent_entry c.in_ok-entry.entry)
     c.in_ok-entry.after.now c.loop-last.invariant.read w b some c.in_ok-entry.ensures in
     let below = n.0 in
@@ -60,13 +61,14 @@ returns-then-seen-count-clause-one c = λ entries b.
 
 pub loop-last-smaller : goal.loop-last-smaller
 loop-last-smaller c =
-    entry_shorter c.loop-last.rest.now
+    entry_shorter c.args.format c.loop-last.rest.now
     (lent_entry c.in_ok-entry.entry) c.in_ok-entry.after.now
     c.loop-last.invariant.read.passed.fits c.in_ok-entry.ensures
 
 pub loop-last-preserved : goal.loop-last-preserved
 loop-last-preserved c = record {
-  read = entries_next c.in_ok-count.entries.now c.loop-last.rest.now c.loop-last.seen _
+  read = entries_next c.args.format c.in_ok-count.entries.now c.loop-last.rest.now c.loop-last.seen
+      _
       (lent_entry c.in_ok-entry.entry)
       c.in_ok-entry.after.now c.loop-last.invariant.read c.in_ok-entry.ensures
       (c.follows.ensures.0 c.if-not-follows.false);
@@ -76,12 +78,12 @@ loop-last-preserved c = record {
 
 pub returns-then-seen-count-2-clause-one : goal.returns-then-seen-count-2-clause-one
 returns-then-seen-count-2-clause-one c = λ entries b.
-    let w = block_spells c.args.part.now c.in_ok-content.content.now _ _
+    let w = block_spells c.args.format c.args.part.now c.in_ok-content.content.now _ _
     c.in_ok-content.ensures.sealed c.in_ok-count.ensures entries b in
     let rest = c.loop-last.rest.now in
     let none = is_nothing (length rest) c.is_empty.result c.is_empty.ensures c.loop-last-test.false
     in
-    let all = entries_all c.in_ok-count.entries.now rest _ _ _ c.args.part.now entries
+    let all = entries_all c.args.format c.in_ok-count.entries.now rest _ _ _ c.args.part.now entries
     c.loop-last.invariant.read w b none in
     elim c.then-seen-count-2.branch [
       | then-seen-count-2-via-then-seen-count-2 v ↦ absurd (v.if-seen-count-2.true all)
@@ -101,7 +103,7 @@ returns-clause-right c =
     let none = is_nothing (length rest) c.is_empty.result c.is_empty.ensures c.loop-last-test.false
     in
     let other = c.if-count-eq0.false in
-    is_block part content c.in_ok-count.entries.now rest c.loop-last.seen
+    is_block c.args.format part content c.in_ok-count.entries.now rest c.loop-last.seen
     c.in_ok-count.count _ is
     (content_fits part content (λ i. omega (arith, c.type_inv.part i)) is)
     c.in_ok-count.ensures
@@ -109,5 +111,6 @@ returns-clause-right c =
 
 pub returns-clause-one : goal.returns-clause-one
 returns-clause-one c = λ entries b.
-    (block_spells c.args.part.now c.in_ok-content.content.now _ _ c.in_ok-content.ensures.sealed
+    (block_spells c.args.format c.args.part.now c.in_ok-content.content.now _ _
+    c.in_ok-content.ensures.sealed
     c.in_ok-count.ensures entries b).spelled

@@ -5,7 +5,7 @@ use Rattle.table_format.proofs.block.entries_of.Given as goal
 
 abbrev pub invariant-loop-last : goal.invariant-loop-last
 invariant-loop-last l = record {
-  read : EntriesRead l.entries l.rest l.seen (option_map lent_entry l.last);
+  read : EntriesRead l.format l.entries l.rest l.seen (option_map lent_entry l.last);
   within : l.seen ≤ l.count;
 }
 

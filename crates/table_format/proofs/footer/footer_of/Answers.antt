@@ -3,7 +3,7 @@ use Rattle.std.specs.Cmp.Lexicographic.{pointwise}
 use Rattle.std.proofs.lemmas.Slice.Eq.{bytes_eq-Decides}
 use Rattle.table_format.specs.CasesLemmas.{off, on}
 use Rattle.table_format.specs.PartsLemmas.{content_fits, footer_none, footer_right, footer_same}
-use Rattle.table_format.specs.PartsLemmas.{format_bytes}
+use Rattle.table_format.specs.Tables.{magic}
 use Rattle.table_format.specs.Parts.{IsFooter, ReadsPart}
 use Rattle.table_format.specs.declared.footer.Footer.{Footer}
 use Rattle.table_format.proofs.footer.footer_of.Goals as goal
@@ -18,7 +18,7 @@ returns-in_err-footer c =
 pub returns-then-ne : goal.returns-then-ne
 returns-then-ne c = λ it f.
     let rest = c.in_ok-footer.rest.now in
-    let end : rest ≡ format_bytes = (footer_same c.args.part.now c.in_ok-content.content.now _ rest
+    let end : rest ≡ magic = (footer_same c.args.part.now c.in_ok-content.content.now _ rest
     c.in_ok-content.ensures.sealed c.in_ok-footer.ensures it f).1 in
     off (pointwise nat_eq rest c.as_slice.result.now) (sym c.if-ne.true ∙ c.ne.ensures)
     ((bytes_eq-Decides rest c.as_slice.result.now).1 (end ∙ sym c.as_slice.ensures))
@@ -30,7 +30,7 @@ returns c =
     let is = c.in_ok-content.ensures.sealed in
     let rest = c.in_ok-footer.rest.now in
     let it = c.in_ok-footer.footer in
-    let end : rest ≡ format_bytes = (bytes_eq-Decides rest c.as_slice.result.now).0
+    let end : rest ≡ magic = (bytes_eq-Decides rest c.as_slice.result.now).0
     (on (pointwise nat_eq rest c.as_slice.result.now) (sym c.if-ne.false ∙ c.ne.ensures))
     ∙ c.as_slice.ensures in (
       footer_right part content it rest is

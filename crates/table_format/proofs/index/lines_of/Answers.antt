@@ -39,9 +39,10 @@ returns-in_default-read_u32 c = inr (
 pub loop-rest-init : goal.loop-rest-init
 loop-rest-init c =
     subst (λ (l : List IndexLine).
-    LinesRead c.in-Some-read_u32.text.now c.in-Some-read_u32.text.now l 0 c.args.end)
+    LinesRead c.args.format c.in-Some-read_u32.text.now c.in-Some-read_u32.text.now l 0 c.args.end)
     (sym c.new-lines.ensures.items)
-    (lines_begin c.in-Some-read_u32.text.now c.args.end (text_fits c.in-Some.content.now _ _
+    (lines_begin c.args.format c.in-Some-read_u32.text.now c.args.end
+    (text_fits c.in-Some.content.now _ _
     (content_fits c.args.part.now c.in-Some.content.now
     (λ i. omega (arith, c.type_inv.part i)) c.in-Some.ensures.sealed)
     c.in-Some-read_u32.ensures))
@@ -50,12 +51,12 @@ pub returns-in_default-line_of : goal.returns-in_default-line_of
 returns-in_default-line_of c = inr (
   refl,
   λ all x.
-      let w = index_spells c.args.part.now c.in-Some.content.now _ _ c.args.end
+      let w = index_spells c.args.format c.args.part.now c.in-Some.content.now _ _ c.args.end
       c.in-Some.ensures.sealed c.in-Some-read_u32.ensures all x in
       let rest = c.loop-rest.rest.now in
       let some = not_empty (length rest) c.is_empty.result c.is_empty.ensures c.loop-rest-test.true
       in
-      no_line c.in-Some-read_u32.text.now rest _ _ c.args.end _ c.args.part.now all
+      no_line c.args.format c.in-Some-read_u32.text.now rest _ _ c.args.end _ c.args.part.now all
       c.loop-rest.invariant w x some
       c.in_default-line_of.ensures.line,
 )
@@ -67,14 +68,15 @@ pub returns-then-line-place : goal.returns-then-line-place
 returns-then-line-place c = inr (
   refl,
   λ all x.
-      let w = index_spells c.args.part.now c.in-Some.content.now _ _ c.args.end
+      let w = index_spells c.args.format c.args.part.now c.in-Some.content.now _ _ c.args.end
       c.in-Some.ensures.sealed c.in-Some-read_u32.ensures all x in
       let rest = c.loop-rest.rest.now in
       let some = not_empty (length rest) c.is_empty.result c.is_empty.ensures c.loop-rest-test.true
       in
       let lines = c.loop-rest.lines.items in
       let entry = end_spot (lent_line c.in-Some-line_of.line) in
-      let n = next_line c.in-Some-read_u32.text.now rest lines _ c.args.end _ c.args.part.now all
+      let n = next_line c.args.format c.in-Some-read_u32.text.now rest lines _ c.args.end _
+      c.args.part.now all
       (lent_line c.in-Some-line_of.line) c.in-Some-line_of.after.now c.loop-rest.invariant w x some
       c.in-Some-line_of.ensures.line in
       let fit = n.1.0 in
@@ -91,7 +93,8 @@ returns-then-line-place c = inr (
 
 pub loop-rest-smaller : goal.loop-rest-smaller
 loop-rest-smaller c =
-    line_shorter c.loop-rest.rest.now (lent_line c.in-Some-line_of.line) c.in-Some-line_of.after.now
+    line_shorter c.args.format c.loop-rest.rest.now (lent_line c.in-Some-line_of.line)
+    c.in-Some-line_of.after.now
     c.loop-rest.invariant.passed.fits c.in-Some-line_of.ensures.line
 
 pub loop-rest-preserved : goal.loop-rest-preserved
@@ -107,10 +110,11 @@ loop-rest-preserved c =
     subst (λ (l : List IndexLine). CanFollow (map end_spot l) (end_spot line)) c.deref.ensures.value
     (c.rises.ensures.0 c.if-not-rises.false) in
     subst (λ (l : List IndexLine).
-    LinesRead c.in-Some-read_u32.text.now c.in-Some-line_of.after.now l
+    LinesRead c.args.format c.in-Some-read_u32.text.now c.in-Some-line_of.after.now l
     (c.loop-rest.place + line.len) c.args.end)
     (sym more)
-    (lines_next c.in-Some-read_u32.text.now c.loop-rest.rest.now lines c.loop-rest.place c.args.end
+    (lines_next c.args.format c.in-Some-read_u32.text.now c.loop-rest.rest.now lines
+    c.loop-rest.place c.args.end
     line
     c.in-Some-line_of.after.now c.loop-rest.invariant c.in-Some-line_of.ensures.line
     c.if-line-place.false
@@ -120,26 +124,28 @@ pub returns-then-place-end : goal.returns-then-place-end
 returns-then-place-end c = inr (
   refl,
   λ all x.
-      let w = index_spells c.args.part.now c.in-Some.content.now _ _ c.args.end
+      let w = index_spells c.args.format c.args.part.now c.in-Some.content.now _ _ c.args.end
       c.in-Some.ensures.sealed c.in-Some-read_u32.ensures all x in
       let text = c.in-Some-read_u32.text.now in
       let rest = c.loop-rest.rest.now in
       let none = is_nothing (length rest) c.is_empty.result c.is_empty.ensures
       c.loop-rest-test.false in
       let lines = c.loop-rest.lines.items in
-      let all_is : all ≡ lines = lines_all text rest lines _ c.args.end _ c.args.part.now all
+      let all_is : all ≡ lines = lines_all c.args.format text rest lines _ c.args.end _
+      c.args.part.now all
       c.loop-rest.invariant w x none in
       let size = w.size in
       elim c.then-place-end.branch [
         | then-place-end-via-then-place-end v ↦ absurd (v.if-place-end.true
             (fills_end 0 lines c.loop-rest.place c.args.end c.loop-rest.invariant.fills
-            (subst (λ (l : List IndexLine). IsIndex c.args.part.now c.args.end l) all_is x).fills))
+            (subst (λ (l : List IndexLine). IsIndex c.args.format c.args.part.now c.args.end l)
+            all_is x).fills))
         | then-place-end-via-else-place-end+then-len-count v ↦
             let told = v.len.ensures in
             let ok = c.loop-rest.lines.ok.0 in
             absurd (v.if-len-count.true (omega (arith, told, ok, size, ap length all_is)))
         | then-place-end-via-else-place-end+else-len-count+then-is_empty v ↦
-            let some = has_text text _ c.args.part.now c.args.end all w x in
+            let some = has_text c.args.format text _ c.args.part.now c.args.end all w x in
             let empty = is_nothing (length text) v.is_empty-else-len-count.result
             v.is_empty-else-len-count.ensures v.if-is_empty.true in
             absurd (omega (arith, some, empty))
@@ -156,10 +162,11 @@ returns c =
     let none = is_nothing (length rest) c.is_empty.result c.is_empty.ensures c.loop-rest-test.false
     in
     let lines = c.loop-rest.lines.items in (
-      is_index part content text rest c.in-Some-read_u32.count lines c.args.end is
+      is_index c.args.format part content text rest c.in-Some-read_u32.count lines c.args.end is
           (content_fits part content (λ i. omega (arith, c.type_inv.part i)) is)
           c.in-Some-read_u32.ensures
-          (subst (λ (p : ℕ). LinesRead text rest lines p c.args.end) c.if-place-end.false
+          (subst (λ (p : ℕ). LinesRead c.args.format text rest lines p c.args.end)
+          c.if-place-end.false
           c.loop-rest.invariant)
           none
           (let told = c.len.ensures in let ok = c.loop-rest.lines.ok.0 in
@@ -167,6 +174,7 @@ returns c =
           omega (arith, told, ok, same))
           (not_empty (length text) c.is_empty-else-len-count.result
           c.is_empty-else-len-count.ensures c.if-is_empty.false),
-      λ all x. lines_all text rest lines _ c.args.end _ part all c.loop-rest.invariant
-          (index_spells part content text _ c.args.end is c.in-Some-read_u32.ensures all x) x none,
+      λ all x. lines_all c.args.format text rest lines _ c.args.end _ part all c.loop-rest.invariant
+          (index_spells c.args.format part content text _ c.args.end is c.in-Some-read_u32.ensures
+          all x) x none,
     )

@@ -1,5 +1,5 @@
 use Rattle.std.proofs.Common.{arith}
-use Rattle.version_edits.proofs.EditLaws.{config_front}
+use Rattle.version_edits.proofs.LineLaws.{config_front}
 use Rattle.version_edits.proofs.reading.front_config_of.Goals as goal
 
 pub returns : goal.returns

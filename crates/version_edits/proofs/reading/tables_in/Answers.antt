@@ -10,19 +10,21 @@ pub returns-in_err-table_of : goal.returns-in_err-table_of
 returns-in_err-table_of c =
     let p = err_from_is_err_and c.from_residual.result c.from_residual.ensures.1 in
     rw (p.1, p.2)
-    (ends table_line_at c.in_err-table_of.field-0.0 c.loop.lines.items c.args.count c.loop.counter
-    c.loop.bytes.now (many table_line_at c.args.count c.args.bytes.now.now) c.loop-test.true
+    (ends (table_line_at c.args.format) c.in_err-table_of.field-0.0 c.loop.lines.items
+    c.args.count c.loop.counter c.loop.bytes.now
+    (many (table_line_at c.args.format) c.args.count c.args.bytes.now.now) c.loop-test.true
     c.in_err-table_of.ensures c.loop.invariant)
 
 pub loop-preserved : goal.loop-preserved
 loop-preserved c =
     let e : c.push.new.self.items ≡ c.loop.lines.items ++ c.in_ok-table_of.field-0 ∷ [] =
     c.in_ok-push.ensures.items in
-    rw e (reads_next table_line_at c.loop.lines.items c.args.count c.loop.counter c.loop.bytes.now
-    c.in_ok-table_of.field-0 c.table_of.new.bytes.now
-    (many table_line_at c.args.count c.args.bytes.now.now) c.loop-test.true
+    rw e (reads_next (table_line_at c.args.format) c.loop.lines.items c.args.count c.loop.counter
+    c.loop.bytes.now c.in_ok-table_of.field-0 c.table_of.new.bytes.now
+    (many (table_line_at c.args.format) c.args.count c.args.bytes.now.now) c.loop-test.true
     c.in_ok-table_of.ensures c.loop.invariant)
 
 pub returns : goal.returns
-returns c = is_done table_line_at c.loop.lines.items c.args.count c.loop.counter c.loop.bytes.now
-    (many table_line_at c.args.count c.args.bytes.now.now) c.loop-test.false c.loop.invariant
+returns c = is_done (table_line_at c.args.format) c.loop.lines.items c.args.count c.loop.counter
+    c.loop.bytes.now (many (table_line_at c.args.format) c.args.count c.args.bytes.now.now)
+    c.loop-test.false c.loop.invariant

@@ -6,5 +6,5 @@ use Rattle.version_edits.proofs.reading.tables_in.Given as goal
 
 abbrev pub invariant-loop : goal.invariant-loop
 invariant-loop l =
-    with_front l.lines.items (many table_line_at (l.count - l.counter) l.bytes.now)
-    ≡ many table_line_at l.count l.fn.bytes.now
+    with_front l.lines.items (many (table_line_at l.format) (l.count - l.counter) l.bytes.now)
+    ≡ many (table_line_at l.format) l.count l.fn.bytes.now

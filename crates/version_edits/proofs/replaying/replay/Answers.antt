@@ -1,7 +1,7 @@
 use Rattle.std.proofs.Common.{◌≡◌, ◌≤◌, Option, ap, arith, length, map, subst, sym, take}
 use Rattle.std.proofs.lemmas.Result.{err_from_is_err_and}
 use Rattle.version_edits.specs.Versions.{IsFit, NodeVersion, changed, version_in}
-use Rattle.version_edits.specs.Edits.{change_text}
+use Rattle.version_edits.specs.Edits.{change_text_in}
 use Rattle.version_edits.specs.Replays.{IsReplayed}
 use Rattle.version_edits.proofs.Replays.{all_replayed, err_of, got_change, length-ends_from}
 use Rattle.version_edits.proofs.Replays.{replayed_next}
@@ -13,8 +13,8 @@ pub returns-in_err-edit-clause-bad : goal.returns-in_err-edit-clause-bad
 returns-in_err-edit-clause-bad c =
     let p = err_from_is_err_and c.from_residual.result c.from_residual.ensures.1 in
     rw (p.1, p.2) (λ damaged changes history read.
-    let got = got_change changes c.loop-index.index c.record.result.now (c.record.ensures _ read)
-    history.each in
+    let got = got_change c.args.format changes c.loop-index.index c.record.result.now
+    (c.record.ensures _ read) history.each in
     c.in_err-edit.ensures.bad (err_of c.in_err-edit.field-0.0 _ damaged) got.0 got.1 got.2)
 
 -- nor is an edit that may not be taken
@@ -26,8 +26,8 @@ returns-in_err-next_version-clause-bad c =
     c.in_err-next_version.ensures.bad damaged
     (subst (λ (o : Option NodeVersion). IsFit (version_in o) c.in_ok-edit.edit)
     (sym c.as_ref.ensures.value)
-    (takes_next c.changes_differ.ensures c.args.id c.loop-index.draft changes c.loop-index.index
-    c.record.result.now c.in_ok-edit.edit (c.loop-index.invariant _ read) history
+    (takes_next c.changes_differ.ensures c.args.format c.args.id c.loop-index.draft changes
+    c.loop-index.index c.record.result.now c.in_ok-edit.edit (c.loop-index.invariant _ read) history
     (c.record.ensures _ read) c.in_ok-edit.ensures.found.1 c.in_ok-edit.ensures.found.0)))
 
 -- one edit more
@@ -38,8 +38,9 @@ loop-index-preserved c = λ records read.
     × (c.in_ok-next_version.field-0 ≡
     record { id = c.args.id; version = changed (version_in o) c.in_ok-edit.edit }))
     c.as_ref.ensures.value c.in_ok-next_version.ensures.found in
-    replayed_next c.args.id c.loop-index.draft records c.loop-index.index c.record.result.now
-    c.in_ok-edit.edit c.in_ok-next_version.field-0 (c.loop-index.invariant records read)
+    replayed_next c.args.format c.args.id c.loop-index.draft records c.loop-index.index
+    c.record.result.now c.in_ok-edit.edit c.in_ok-next_version.field-0
+    (c.loop-index.invariant records read)
     (c.record.ensures records read) edit.1 edit.0 next.0 next.1
 
 -- all records were replayed
@@ -53,14 +54,15 @@ returns-in-Some-clause-found c = λ records read.
       ap length read.ends,
       length-ends_from 0 records,
     ) in
-    all_replayed c.args.id c.in-Some.version records c.loop-index.index
-    (subst (λ (d : Option NodeVersion). IsReplayed c.args.id d (take c.loop-index.index records))
+    all_replayed c.args.format c.args.id c.in-Some.version records c.loop-index.index
+    (subst (λ (d : Option NodeVersion). IsReplayed c.args.format c.args.id d
+    (take c.loop-index.index records))
     c.in-Some.is (c.loop-index.invariant records read)) all
 
 -- there was none
 pub returns-in-None-clause-bad : goal.returns-in-None-clause-bad
 returns-in-None-clause-bad c = λ damaged changes history read.
-    let records = map change_text changes in
+    let records = map (change_text_in c.args.format) changes in
     let all : length records ≤ c.loop-index.index =
     omega (
       arith,
@@ -69,6 +71,7 @@ returns-in-None-clause-bad c = λ damaged changes history read.
       ap length read.ends,
       length-ends_from 0 records,
     ) in
-    some_replayed c.args.id changes c.loop-index.index
-    (subst (λ (d : Option NodeVersion). IsReplayed c.args.id d (take c.loop-index.index records))
+    some_replayed c.args.format c.args.id changes c.loop-index.index
+    (subst (λ (d : Option NodeVersion). IsReplayed c.args.format c.args.id d
+    (take c.loop-index.index records))
     c.in-None.is (c.loop-index.invariant records read)) all history

@@ -7,4 +7,4 @@ use Rattle.version_edits.proofs.replaying.replay.Given as goal
 abbrev pub invariant-loop-index : goal.invariant-loop-index
 invariant-loop-index l =
     (records : List (List ℕ)) → HasRead l.opened records
-    → IsReplayed l.id l.draft (take l.index records)
+    → IsReplayed l.format l.id l.draft (take l.index records)

@@ -1,6 +1,7 @@
 use Rattle.std.proofs.Common.{sym, subst, refl, false, rules}
 use Rattle.std.proofs.lemmas.Result.{err_from_is_err_and}
 use Rattle.version_edits.specs.{IsFullEdit}
+use Rattle.byte_fields.specs.declared.format.Format.TheVariants as formats
 use Rattle.manifest.proofs.Edited.{met_is, whole_since, whole_start, whole_held}
 use Rattle.manifest.proofs.Kept.{fails_log, kept_as, kept_still, log_fails}
 use Rattle.manifest.proofs.manifest.Manifest.rewrite.Goals as goal
@@ -40,7 +41,7 @@ returns-in_err-rewrite-clause-changes g c = record {
       (λ a b k. k) c.in_err-rewrite.ensures.kept);
   failed = search rules;
   changed = λ named honest h.
-      let why = c.in_err-rewrite.ensures.changes.done named.id _ honest h.records in
+      let why = (c.in_err-rewrite.ensures.changes formats.Two).done named.id _ honest h.records in
       let p = err_from_is_err_and c.from_residual-in_err-rewrite.result
       c.from_residual-in_err-rewrite.ensures.1 in
       rw (p.1, p.2) (met_is c.in_err-rewrite.field-0.0 why);
@@ -50,7 +51,7 @@ returns-in_err-rewrite-clause-changes g c = record {
       whole_since (g.D.Disk.state c.args.disk.now) c.args.self.now named c.deref.result.now h whole
       (g.D.Disk.state c.rewrite.new.disk) (g.D.Disk.past c.args.disk.now)
       (g.D.Disk.past c.rewrite.new.disk)
-      (c.rewrite.ensures.changes.any_moment named.id _ honest h.records);
+      ((c.rewrite.ensures.changes formats.Two).any_moment named.id _ honest h.records);
 }
 
 pub returns-clause-changes : goal.returns-clause-changes
@@ -64,12 +65,13 @@ returns-clause-changes g c = record {
       whole_held (g.D.Disk.state c.args.disk.now) c.args.self.now named c.deref.result.now h whole
       (g.D.Disk.state c.rewrite.new.disk)
       (record c.args.self.now { slots = c.rewrite.new.self; has_failed = false })
-      (λ e. absurd cc) refl (c.in_ok-rewrite.ensures.changes.done named.id _ honest h.records);
+      (λ e. absurd cc) refl ((c.in_ok-rewrite.ensures.changes formats.Two).done named.id _ honest
+      h.records);
   any_moment = λ named honest h.
       let whole = subst (IsFullEdit c.args.self.now.version) (sym c.deref.ensures.value)
       c.in_ok-bytes.ensures.whole in
       whole_since (g.D.Disk.state c.args.disk.now) c.args.self.now named c.deref.result.now h whole
       (g.D.Disk.state c.rewrite.new.disk) (g.D.Disk.past c.args.disk.now)
       (g.D.Disk.past c.rewrite.new.disk)
-      (c.rewrite.ensures.changes.any_moment named.id _ honest h.records);
+      ((c.rewrite.ensures.changes formats.Two).any_moment named.id _ honest h.records);
 }

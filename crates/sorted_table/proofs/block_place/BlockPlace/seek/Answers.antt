@@ -17,9 +17,9 @@ returns-clause-found c = λ entries rising reads some.
     let starts = rc_slice_items old.block.starts in
     let place = spot (lent_key c.args.key) c.args.number in
     let split = c.count_before-at.ensures.splits entries rising
-    (lent_reads entries bytes starts c.deref.result.now c.deref-2.result.now
+    (lent_reads old.block.format entries bytes starts c.deref.result.now c.deref-2.result.now
     c.deref.ensures.value c.deref-2.ensures.value reads) in
-    let len = count_read bytes starts entries reads in
+    let len = count_read old.block.format bytes starts entries reads in
     elim (cases_lt c.count_before-at.result (length entries)) [
       | inl early ↦ subst (SplitsEntries entries place)
           (sym (c.move_to.ensures.at_number ∙ c.min-at.ensures

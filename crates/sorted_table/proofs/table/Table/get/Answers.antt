@@ -13,7 +13,7 @@ returns g c =
       checked = it.checked;
       meant = it.meant;
       unread = subst (λ (h : ℕ × ℕ). (CoversHashed (table_filter c.args.self.now) h → ⊥)
-          → c.get_hashed.new.files ≡ c.args.files.now) c.of_stored.ensures it.unread;
+          → c.get_hashed.new.files ≡ c.args.files.now) c.hashes_in.ensures it.unread;
       calls = it.calls;
       still = it.still;
     }

@@ -6,6 +6,7 @@ use Rattle.byte_fields.specs.{lent_key}
 use Rattle.disk.specs.{IsEnvironmental}
 use Rattle.disk.specs.StillLemmas.{still}
 use Rattle.merge_iter.specs.{spot}
+use Rattle.table_format.specs.{filter_key}
 use Rattle.table_format.specs.declared.FileError.TheVariants as reading
 use Rattle.sorted_table.specs.Meant.{IsBlockAtLine}
 use Rattle.sorted_table.specs.Open.{LookupFinds}
@@ -26,10 +27,12 @@ pub returns-then-denies : goal.returns-then-denies
 returns-then-denies g c = record {
   kept = kept_uncalled _ (λ e. cc);
   found = λ entries honest s.
-      denied_unseen entries s.represents.filter (lent_key c.args.key) c.args.at
+      denied_unseen c.args.self.now.format entries s.represents.filter (lent_key c.args.key)
+      c.args.at
       c.filters_cover.ensures
       s.represents.exact
-      (subst (λ (f : List ℕ). CoversHashed f (hashes_of (lent_key c.args.key)) → ⊥) s.filter
+      (subst (λ (f : List ℕ). CoversHashed f (hashes_of (filter_key c.args.self.now.format
+      (lent_key c.args.key))) → ⊥) s.filter
       (subst (λ (h : ℕ × ℕ). CoversHashed c.args.self.now.filter.items h → ⊥) c.requires
       (c.denies.ensures.denied.0 c.if-denies.true)));
   checked = λ honest opened.
@@ -39,10 +42,12 @@ returns-then-denies g c = record {
         refl,
       );
   meant = λ honest meant entries s agree.
-      denied_unseen entries s.represents.filter (lent_key c.args.key) c.args.at
+      denied_unseen c.args.self.now.format entries s.represents.filter (lent_key c.args.key)
+      c.args.at
       c.filters_cover.ensures
       s.represents.exact
-      (subst (λ (f : List ℕ). CoversHashed f (hashes_of (lent_key c.args.key)) → ⊥) s.filter
+      (subst (λ (f : List ℕ). CoversHashed f (hashes_of (filter_key c.args.self.now.format
+      (lent_key c.args.key))) → ⊥) s.filter
       (subst (λ (h : ℕ × ℕ). CoversHashed c.args.self.now.filter.items h → ⊥) c.requires
       (c.denies.ensures.denied.0 c.if-denies.true)));
   unread = λ denied. refl;
@@ -56,23 +61,27 @@ returns-then-number-lines g c = record {
   kept = kept_uncalled _ (λ e. cc);
   found = λ entries honest s.
       let lines = c.deref-lines.result.now in
-      no_block s.bytes entries s.represents lines (lent_key c.args.key) c.args.at
+      no_block c.args.self.now.format s.bytes entries s.represents lines (lent_key c.args.key)
+      c.args.at
       (c.deref-lines.ensures.value ∙ s.lines)
       (λ rising. lines_early lines (spot (lent_key c.args.key) c.args.at) c.line_place-number.result
       (omega (arith, c.if-number-lines.true)) (c.line_place-number.ensures.place rising));
   checked = λ honest opened.
       let file = g.D.Disk.state c.args.files.now.disk c.args.self.now.file in
       let n = c.line_place-number.result in
-      let covers = not_denied c.args.self.now.filter.items (lent_key c.args.key) c.args.hashes
+      let covers = not_denied c.args.self.now.filter.items
+      (filter_key c.args.self.now.format (lent_key c.args.key)) c.args.hashes
       c.denies.result c.requires c.denies.ensures.covered c.if-denies.false in
       by_line file c.args.self.now c.deref-lines.result.now (lent_key c.args.key) c.args.at n (Ok
       None) opened
       covers c.deref-lines.ensures.value c.line_place-number.ensures.place
-      (none_behind file c.deref-lines.result.now (lent_key c.args.key) c.args.at n
+      (none_behind c.args.self.now.format file c.deref-lines.result.now (lent_key c.args.key)
+      c.args.at n
       (omega (arith, c.if-number-lines.true)));
   meant = λ honest meant entries s agree.
       let lines = c.deref-lines.result.now in
-      no_block s.bytes entries s.represents lines (lent_key c.args.key) c.args.at
+      no_block c.args.self.now.format s.bytes entries s.represents lines (lent_key c.args.key)
+      c.args.at
       (c.deref-lines.ensures.value ∙ s.lines)
       (λ rising. lines_early lines (spot (lent_key c.args.key) c.args.at) c.line_place-number.result
       (omega (arith, c.if-number-lines.true)) (c.line_place-number.ensures.place rising));
@@ -94,14 +103,16 @@ returns-in_err-block g c = record {
       let file = g.D.Disk.state c.args.files.now.disk c.args.self.now.file in
       let at = some_of lines n (omega (arith, c.if-number-lines.false)) in
       let t = lines_of file c.args.self.now entries lines s c.deref-lines.ensures.value in
-      let b = block_at file lines t n at.0 at.1 in
+      let b = block_at c.args.self.now.format file lines t n at.0 at.1 in
       let e = c.in_err-block.field-0.0 in
       let why = environmental e
-      (never_damaged file lines t n at.0 e b at.1 (c.in_err-block.ensures.answers honest)) in
+      (never_damaged c.args.self.now.format file lines t n at.0 e b at.1
+      (c.in_err-block.ensures.answers honest)) in
       let p = err_from_is_err_and c.from_residual.result c.from_residual.ensures.1 in
       rw (p.1, p.2) why;
   checked = λ honest opened.
-      let covers = not_denied c.args.self.now.filter.items (lent_key c.args.key) c.args.hashes
+      let covers = not_denied c.args.self.now.filter.items
+      (filter_key c.args.self.now.format (lent_key c.args.key)) c.args.hashes
       c.denies.result c.requires c.denies.ensures.covered c.if-denies.false in
       let file = g.D.Disk.state c.args.files.now.disk c.args.self.now.file in
       let why = by_line file c.args.self.now c.deref-lines.result.now
@@ -135,10 +146,11 @@ returns g c = record {
       c.in_ok-block.block
       c.find_in.result c.deref-lines.ensures.value
       (omega (arith, c.if-number-lines.false)) c.line_place-number.ensures.place
-      (c.in_ok-block.ensures.answers honest)
+      c.in_ok-block.ensures.read_in (c.in_ok-block.ensures.answers honest)
       c.find_in.ensures;
   checked = λ honest opened.
-      let covers = not_denied c.args.self.now.filter.items (lent_key c.args.key) c.args.hashes
+      let covers = not_denied c.args.self.now.filter.items
+      (filter_key c.args.self.now.format (lent_key c.args.key)) c.args.hashes
       c.denies.result c.requires c.denies.ensures.covered c.if-denies.false in
       let file = g.D.Disk.state c.args.files.now.disk c.args.self.now.file in
       let lines = c.deref-lines.result.now in
@@ -147,18 +159,21 @@ returns g c = record {
       by_line file c.args.self.now lines (lent_key c.args.key) c.args.at n c.find_in.result opened
       covers
       c.deref-lines.ensures.value c.line_place-number.ensures.place
-      (line_answers file lines n at.0 (lent_key c.args.key) c.args.at c.in_ok-block.block
-      c.find_in.result
-      at.1 (c.in_ok-block.ensures.answers honest) c.find_in.ensures);
+      (line_answers c.args.self.now.format file lines n at.0 (lent_key c.args.key) c.args.at
+      c.in_ok-block.block c.find_in.result at.1 (c.in_ok-block.ensures.answers honest)
+      c.in_ok-block.ensures.read_in c.find_in.ensures);
   meant = λ honest meant entries s agree.
       let file = g.D.Disk.state c.args.files.now.disk c.args.self.now.file in
       let lines = c.deref-lines.result.now in
       let n = c.line_place-number.result in
       let part = rc_slice_items c.in_ok-block.block.bytes in
       let mine = rc_slice_items c.args.self.now.lines in
-      let read : IsBlockAtLine mine n file part = subst (λ l. IsBlockAtLine l n file part)
+      let format = c.args.self.now.format in
+      let read : IsBlockAtLine format mine n file part = subst
+      (λ l. IsBlockAtLine format l n file part)
       c.deref-lines.ensures.value (c.in_ok-block.ensures.answers honest) in
-      let here : IsBlockAtLine lines n meant part = subst (λ l. IsBlockAtLine l n meant part)
+      let here : IsBlockAtLine format lines n meant part = subst
+      (λ l. IsBlockAtLine format l n meant part)
       (sym c.deref-lines.ensures.value) (agree n part read) in
       ok_part (LookupFinds entries (lent_key c.args.key) c.args.at)
       (IsEnvironmental reading.Disk reading.Memory)
@@ -167,7 +182,7 @@ returns g c = record {
       lines n (lent_key c.args.key) c.args.at c.in_ok-block.block
       c.find_in.result c.deref-lines.ensures.value
       (omega (arith, c.if-number-lines.false)) c.line_place-number.ensures.place
-      here
+      c.in_ok-block.ensures.read_in here
       c.find_in.ensures);
   unread = λ denied.
       absurd (denied (when_false c.denies.result _ c.if-denies.false c.denies.ensures.covered));

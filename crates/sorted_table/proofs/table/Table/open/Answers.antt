@@ -9,7 +9,7 @@ use Rattle.disk.specs.{seen}
 use Rattle.table_format.specs.{IsFilterPart, IsIndex, TableRepresents}
 use Rattle.sorted_table.specs.Tails.{HasReadTail, HasTail, ReadsTail}
 use Rattle.sorted_table.proofs.OpenTails.{parts_there, read_there, refused_so, some_both, some_more}
-use Rattle.sorted_table.proofs.OpenTails.{tail_there}
+use Rattle.sorted_table.proofs.OpenTails.{in_its_format, tail_format, tail_there}
 use Rattle.sorted_table.proofs.TailsLemmas.{only_parts_memory}
 use Rattle.sorted_table.proofs.table.Table.open.Goals as goal
 
@@ -22,7 +22,7 @@ some_and P (Some a) h = (a, refl, h)
 pub returns-in_err-bytes-clause-opened : goal.returns-in_err-bytes-clause-opened
 returns-in_err-bytes-clause-opened g c = λ entries honest has.
     let t = some_and (λ bytes. TableRepresents bytes entries) _ has in
-    let why = c.in_err-bytes.ensures.tail t.0 entries t.2 honest t.1 in
+    let why = c.in_err-bytes.ensures.tail t.2.format t.0 entries t.2.table honest t.1 in
     let p = err_from_is_err_and c.from_residual.result c.from_residual.ensures.1 in
     rw (p.1, p.2) why
 
@@ -30,9 +30,11 @@ returns-in_err-bytes-clause-opened g c = λ entries honest has.
 pub returns-in_err-lines-clause-opened : goal.returns-in_err-lines-clause-opened
 returns-in_err-lines-clause-opened g c = λ entries honest has.
     let t = some_and (λ bytes. TableRepresents bytes entries) _ has in
-    let tail = c.in_ok-bytes.ensures.tail t.0 entries t.2 honest t.1 in
-    let why = c.in_err-lines.ensures.parts t.0 entries t.2
-    (c.deref.ensures.value ∙ tail.0) tail.1 in
+    let tail = c.in_ok-bytes.ensures.tail t.2.format t.0 entries t.2.table honest t.1 in
+    let it = in_its_format t.2.format t.0 entries c.in_ok-bytes.bytes.items c.in_ok-bytes.tail
+    tail.1.read_in (record { table = t.2.table; part_is = tail.0; is_tail = tail.1 }) in
+    let why = c.in_err-lines.ensures.parts t.0 entries it.table
+    (c.deref.ensures.value ∙ it.part_is) it.is_tail in
     let p = err_from_is_err_and c.from_residual-in_err-lines.result
     c.from_residual-in_err-lines.ensures.1 in
     rw (p.1, p.2) (inr why)
@@ -40,13 +42,15 @@ returns-in_err-lines-clause-opened g c = λ entries honest has.
 pub returns-clause-opened : goal.returns-clause-opened
 returns-clause-opened g c = λ entries honest has.
     let t = some_and (λ bytes. TableRepresents bytes entries) _ has in
-    let tail = c.in_ok-bytes.ensures.tail t.0 entries t.2 honest t.1 in
-    let parts = c.in_ok-lines.ensures.parts t.0 entries t.2
-    (c.deref.ensures.value ∙ tail.0) tail.1 in
+    let tail = c.in_ok-bytes.ensures.tail t.2.format t.0 entries t.2.table honest t.1 in
+    let it = in_its_format t.2.format t.0 entries c.in_ok-bytes.bytes.items c.in_ok-bytes.tail
+    tail.1.read_in (record { table = t.2.table; part_is = tail.0; is_tail = tail.1 }) in
+    let parts = c.in_ok-lines.ensures.parts t.0 entries it.table
+    (c.deref.ensures.value ∙ it.part_is) it.is_tail in
     record {
       bytes = t.0;
       present = ap seen (c.read_tail.ensures.device.kept.files honest c.args.file) ∙ t.1;
-      represents = t.2;
+      represents = it.table;
       lines = parts.0;
       filter = parts.1;
     }
@@ -62,19 +66,21 @@ returns-clause-checked g c = λ honest.
     let checked = c.in_ok-lines.ensures.checked in
     let is = c.deref.ensures.value in (
       subst (λ (file : Option (List ℕ)).
-          IsSomeAnd file (λ bytes. HasTail bytes lines c.in_ok-lines.filter.items))
+          IsSomeAnd file (λ bytes. HasTail tail.format bytes lines c.in_ok-lines.filter.items))
           (sym (ap seen (c.read_tail.ensures.device.kept.files honest c.args.file)))
           (some_more (ReadsTail part tail) _ (seen old) there (λ bytes read.
           tail_there bytes part c.in_ok-lines.filter.items tail lines read
           (subst (λ (b : List ℕ).
           IsFilterPart (take tail.filter_len b) c.in_ok-lines.filter.items) is checked.0)
-          (subst (λ (b : List ℕ). IsIndex (drop tail.filter_len b) tail.place lines) is
-          checked.1))),
-      λ others filter has.
+          (subst (λ (b : List ℕ). IsIndex tail.format (drop tail.filter_len b) tail.place lines)
+          is checked.1))),
+      λ format others filter has.
           let it = some_both (ReadsTail part tail) _ (seen old) there has in
-          let both = parts_there it.0 others filter it.2 part tail it.1 in
-          checked.2 others (subst (λ (b : List ℕ).
-          IsIndex (drop tail.filter_len b) tail.place others) (sym is) both.1),
+          let both = parts_there format it.0 others filter it.2 part tail it.1 in (
+            sym (tail_format format it.0 others filter it.2 part tail it.1),
+            checked.2 others (subst (λ (b : List ℕ).
+                IsIndex tail.format (drop tail.filter_len b) tail.place others) (sym is) both.1),
+          ),
     )
 
 -- a file that a table can be open on is refused only by the environment
@@ -83,7 +89,7 @@ returns-in_err-bytes-clause-checked g c = λ honest.
     let slot = g.D.Disk.state c.args.disk.now c.args.file in
     refused_so c.from_residual.result _ _ c.from_residual.ensures.1
     (λ can. c.in_err-bytes.ensures.there honest (some_more _ HasReadTail (seen slot) can
-    (λ bytes it. read_there bytes it.0 it.1 it.2)))
+    (λ bytes it. read_there it.0 bytes it.1 it.2 it.3)))
 
 pub returns-in_err-lines-clause-checked : goal.returns-in_err-lines-clause-checked
 returns-in_err-lines-clause-checked g c = λ honest.
@@ -95,11 +101,12 @@ returns-in_err-lines-clause-checked g c = λ honest.
     (λ can.
     let it = some_both (ReadsTail part tail) _ (seen slot) (c.in_ok-bytes.ensures.there honest)
     can in
-    let both = parts_there it.0 it.2.0 it.2.1 it.2.2 part tail it.1 in
-    inr (only_parts_memory c.in_err-lines.field-0.0 _ _ tail.place it.2.1 it.2.0
+    let both = parts_there it.2.0 it.0 it.2.1 it.2.2 it.2.3 part tail it.1 in
+    inr (only_parts_memory tail.format c.in_err-lines.field-0.0 _ _ tail.place it.2.2 it.2.1
     c.in_err-lines.ensures.checked
-    (subst (λ (b : List ℕ). IsFilterPart (take tail.filter_len b) it.2.1) (sym is) both.0)
-    (subst (λ (b : List ℕ). IsIndex (drop tail.filter_len b) tail.place it.2.0) (sym is) both.1)))
+    (subst (λ (b : List ℕ). IsFilterPart (take tail.filter_len b) it.2.2) (sym is) both.0)
+    (subst (λ (b : List ℕ). IsIndex tail.format (drop tail.filter_len b) tail.place it.2.1)
+    (sym is) both.1)))
 
 pub returns-in_err-bytes-clause-kept : goal.returns-in_err-bytes-clause-kept
 returns-in_err-bytes-clause-kept g c = grind (arith, common_steps)

@@ -47,11 +47,13 @@ returns-in-Err-clause-reads g c = grind (arith, common_steps)
 
 pub returns-in-Ok-clause-moved : goal.returns-in-Ok-clause-moved
 returns-in-Ok-clause-moved g c =
-    enters_some _ c.args.self.now.file (rc_slice_items c.args.self.now.lines) c.args.files.now
+    enters_some _ c.args.self.now.file c.args.self.now.format (rc_slice_items c.args.self.now.lines)
+    c.args.files.now
     c.first_of.new.files c.first_of.result c.in-Ok.place _ _ c.in-Ok.is c.first_of.ensures.device
 
 pub returns-in-Err-clause-moved : goal.returns-in-Err-clause-moved
 returns-in-Err-clause-moved g c =
     rw c.cursor_error.ensures (enters_none _ c.args.self.now.file
-    (rc_slice_items c.args.self.now.lines) c.args.files.now c.first_of.new.files c.first_of.result
+    c.args.self.now.format (rc_slice_items c.args.self.now.lines) c.args.files.now
+    c.first_of.new.files c.first_of.result
     c.in-Err.e c.in-Err.is c.first_of.ensures.device c.first_of.ensures.damaged)

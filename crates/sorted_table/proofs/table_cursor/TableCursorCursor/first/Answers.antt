@@ -7,15 +7,15 @@ use Rattle.sorted_table.proofs.table_cursor.TableCursorCursor.first.Goals as goa
 pub returns : goal.returns
 returns g c = record {
   moves =
-      cursor_moves _ (λ d. d.file) (λ d. rc_slice_items d.lines) (λ d. d.place) _ _
+      cursor_moves _ (λ d. d.file) (λ d. d.format) (λ d. rc_slice_items d.lines) (λ d. d.place) _ _
       c.args.files.now c.enter.new.files c.enter.ensures.moved.keeps c.enter.ensures.table.0
-      (ap rc_slice_items c.enter.ensures.table.1)
+      (ap rc_slice_items c.enter.ensures.table.1) c.enter.ensures.table.2
       (λ m honest agree t here. entered_or_none _ _ _ c.enter.result
       (c.enter.ensures.reads m honest agree t) c.enter.ensures.moved.refused);
   device = search rules;
   causes = search rules;
   broken = search rules;
   finds = λ m s.
-      finds_first _ _ s.1.table c.enter.result c.enter.new.self.has_failed c.enter.new.self.place
+      finds_first _ _ _ s.1.table c.enter.result c.enter.new.self.has_failed c.enter.new.self.place
       c.enter.ensures.entered (c.enter.ensures.reads (m c.args.self.now.file) s.0 s.2 s.1.table);
 }

@@ -12,8 +12,8 @@ use Rattle.sorted_table.proofs.table_cursor.TableCursorCursor.next.Goals as goal
 pub returns-in_default : goal.returns-in_default
 returns-in_default g c = record {
   moves =
-      cursor_moves _ (λ d. d.file) (λ d. rc_slice_items d.lines) (λ d. d.place) _ _
-      c.args.files.now c.args.files.now (keeps_files_itself _ c.args.files.now) refl refl
+      cursor_moves _ (λ d. d.file) (λ d. d.format) (λ d. rc_slice_items d.lines) (λ d. d.place) _ _
+      c.args.files.now c.args.files.now (keeps_files_itself _ c.args.files.now) refl refl refl
       (λ m honest agree t here. here);
   device = moves_itself _ c.args.files.now;
   causes = search rules;
@@ -25,8 +25,8 @@ returns-in_default g c = record {
 pub returns-then-advance : goal.returns-then-advance
 returns-then-advance g c = record {
   moves =
-      cursor_moves _ (λ d. d.file) (λ d. rc_slice_items d.lines) (λ d. d.place) _ _
-      c.args.files.now c.args.files.now (keeps_files_itself _ c.args.files.now) refl refl
+      cursor_moves _ (λ d. d.file) (λ d. d.format) (λ d. rc_slice_items d.lines) (λ d. d.place) _ _
+      c.args.files.now c.args.files.now (keeps_files_itself _ c.args.files.now) refl refl refl
       (λ m honest agree t here.
       let p = c.in-Some.place in
       moved_in t.represents.blocks p c.advance.new.self (p.at + 1) (c.if-advance.ensures.moved refl)
@@ -37,7 +37,7 @@ returns-then-advance g c = record {
   broken = search rules;
   ends = search rules;
   finds = λ m s.
-      finds_next_in _ _ s.1.table c.args.self.now.has_failed c.args.self.now.place c.in-Some.place
+      finds_next_in _ _ _ s.1.table c.args.self.now.has_failed c.args.self.now.place c.in-Some.place
       c.advance.new.self c.in-Some.is s.1.here
       (c.if-advance.ensures.moved refl);
 }
@@ -57,9 +57,9 @@ overflow_add-line g c =
 pub returns : goal.returns
 returns g c = record {
   moves =
-      cursor_moves _ (λ d. d.file) (λ d. rc_slice_items d.lines) (λ d. d.place) _ _
+      cursor_moves _ (λ d. d.file) (λ d. d.format) (λ d. rc_slice_items d.lines) (λ d. d.place) _ _
       c.args.files.now c.enter.new.files c.enter.ensures.moved.keeps c.enter.ensures.table.0
-      (ap rc_slice_items c.enter.ensures.table.1) (λ m honest agree t here.
+      (ap rc_slice_items c.enter.ensures.table.1) c.enter.ensures.table.2 (λ m honest agree t here.
       entered_or_none _ _ _ c.enter.result
       (c.enter.ensures.reads m honest agree t) c.enter.ensures.moved.refused);
   device = search rules;
@@ -77,7 +77,7 @@ returns g c = record {
       let last = when_false c.advance.result _ c.if-advance.false c.advance.ensures.last in
       let old = c.args.self.now in
       let new = c.enter.new.self in
-      finds_next_block _ _ s.1.table c.enter.result old.has_failed old.place c.in-Some.place
+      finds_next_block _ _ _ s.1.table c.enter.result old.has_failed old.place c.in-Some.place
       (c.line-line.result + 1) new.has_failed new.place c.in-Some.is
       s.1.here last.1 (ap (λ n. n + 1) (c.line-line.ensures ∙ last.0.line)) c.enter.ensures.entered
       (c.enter.ensures.reads (m c.args.self.now.file) s.0 s.2 s.1.table);

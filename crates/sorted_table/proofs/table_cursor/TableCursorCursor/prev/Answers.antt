@@ -13,8 +13,8 @@ use Rattle.sorted_table.proofs.table_cursor.TableCursorCursor.prev.Goals as goal
 pub returns-in_default : goal.returns-in_default
 returns-in_default g c = record {
   moves =
-      cursor_moves _ (λ d. d.file) (λ d. rc_slice_items d.lines) (λ d. d.place) _ _
-      c.args.files.now c.args.files.now (keeps_files_itself _ c.args.files.now) refl refl
+      cursor_moves _ (λ d. d.file) (λ d. d.format) (λ d. rc_slice_items d.lines) (λ d. d.place) _ _
+      c.args.files.now c.args.files.now (keeps_files_itself _ c.args.files.now) refl refl refl
       (λ m honest agree t here. here);
   device = moves_itself _ c.args.files.now;
   causes = search rules;
@@ -26,8 +26,8 @@ returns-in_default g c = record {
 pub returns-then-retreat : goal.returns-then-retreat
 returns-then-retreat g c = record {
   moves =
-      cursor_moves _ (λ d. d.file) (λ d. rc_slice_items d.lines) (λ d. d.place) _ _
-      c.args.files.now c.args.files.now (keeps_files_itself _ c.args.files.now) refl refl
+      cursor_moves _ (λ d. d.file) (λ d. d.format) (λ d. rc_slice_items d.lines) (λ d. d.place) _ _
+      c.args.files.now c.args.files.now (keeps_files_itself _ c.args.files.now) refl refl refl
       (λ m honest agree t here.
       let p = c.in-Some.place in
       moved_in t.represents.blocks p c.retreat.new.self (p.at - 1)
@@ -40,15 +40,15 @@ returns-then-retreat g c = record {
   ends = search rules;
   finds = λ m s.
       let moved = c.if-retreat.ensures.moved refl in
-      finds_prev_in _ _ s.1.table c.args.self.now.has_failed c.args.self.now.place c.in-Some.place
+      finds_prev_in _ _ _ s.1.table c.args.self.now.has_failed c.args.self.now.place c.in-Some.place
       c.retreat.new.self c.in-Some.is s.1.here moved.0 moved.1;
 }
 
 pub returns-then-line-eq0 : goal.returns-then-line-eq0
 returns-then-line-eq0 g c = record {
   moves =
-      cursor_moves _ (λ d. d.file) (λ d. rc_slice_items d.lines) (λ d. d.place) _ _
-      c.args.files.now c.args.files.now (keeps_files_itself _ c.args.files.now) refl refl
+      cursor_moves _ (λ d. d.file) (λ d. d.format) (λ d. rc_slice_items d.lines) (λ d. d.place) _ _
+      c.args.files.now c.args.files.now (keeps_files_itself _ c.args.files.now) refl refl refl
       (λ m honest agree t here. tt);
   device = moves_itself _ c.args.files.now;
   causes = search rules;
@@ -56,7 +56,7 @@ returns-then-line-eq0 g c = record {
   ends = search rules;
   finds = λ m s.
       let first = when_false c.retreat.result _ c.if-retreat.false c.retreat.ensures.first in
-      finds_none_before _ _ s.1.table c.args.self.now.has_failed c.args.self.now.place
+      finds_none_before _ _ _ s.1.table c.args.self.now.has_failed c.args.self.now.place
       c.in-Some.place None c.in-Some.is s.1.here
       (sym first.0.line ∙ (sym c.line-line.ensures ∙ c.if-line-eq0.true)) first.1 refl;
 }
@@ -64,9 +64,9 @@ returns-then-line-eq0 g c = record {
 pub returns : goal.returns
 returns g c = record {
   moves =
-      cursor_moves _ (λ d. d.file) (λ d. rc_slice_items d.lines) (λ d. d.place) _ _
+      cursor_moves _ (λ d. d.file) (λ d. d.format) (λ d. rc_slice_items d.lines) (λ d. d.place) _ _
       c.args.files.now c.enter.new.files c.enter.ensures.moved.keeps c.enter.ensures.table.0
-      (ap rc_slice_items c.enter.ensures.table.1) (λ m honest agree t here.
+      (ap rc_slice_items c.enter.ensures.table.1) c.enter.ensures.table.2 (λ m honest agree t here.
       entered_or_none _ _ _ c.enter.result
       (c.enter.ensures.reads m honest agree t) c.enter.ensures.moved.refused);
   device = search rules;
@@ -86,7 +86,7 @@ returns g c = record {
       let old = c.args.self.now in
       let new = c.enter.new.self in
       let is = c.in-Some.is in
-      finds_prev_block _ _ s.1.table c.enter.result old.has_failed old.place c.in-Some.place
+      finds_prev_block _ _ _ s.1.table c.enter.result old.has_failed old.place c.in-Some.place
       (c.line-line.result - 1) new.has_failed new.place is
       s.1.here (let some = c.if-line-eq0.false in
       omega (arith, c.line-line.ensures, first.0.line, some)) first.1

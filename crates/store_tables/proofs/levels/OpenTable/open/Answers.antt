@@ -4,7 +4,7 @@ use Rattle.std.specs.Prelude.{IsSomeAnd}
 use Rattle.disk.specs.{IsEnvironmental, Slot, contents, seen}
 use Rattle.disk.specs.StillLemmas.{still, still_more, still_same}
 use Rattle.sorted_table.specs.{AreAsMeant, HasTail, IsOpenOn, TableServes}
-use Rattle.sorted_table.specs.{index_lines, table_filter}
+use Rattle.sorted_table.specs.{index_lines, table_filter, table_format}
 use Rattle.store_tables.specs.declared.error.EngineError.TheVariants as engine
 use Rattle.store_tables.specs.LevelTablesLemmas.{open_as_itself}
 use Rattle.store_tables.specs.LevelTables.{IsOpenAsMeant}
@@ -163,8 +163,8 @@ returns-clause-opens g c = record {
               both.0,
               record {
                 opened = inr (c.in_ok-table.ensures.checked between).0;
-                blocks = subst (λ (s : Slot). AreAsMeant s (meant file) (index_lines opened))
-                    (sym same) both.1;
+                blocks = subst (λ (s : Slot). AreAsMeant (table_format opened) s (meant file)
+                    (index_lines opened)) (sym same) both.1;
               },
             )
       ]);
@@ -174,7 +174,8 @@ returns-clause-opens g c = record {
       let table = c.in_ok-table.table in
       let between = c.length.ensures.kept.disk.honest.1 honest in
       let tail = subst (λ (file : Option (List ℕ)).
-      IsSomeAnd file (λ bytes. HasTail bytes (index_lines table) (table_filter table)))
+      IsSomeAnd file
+      (λ bytes. HasTail (table_format table) bytes (index_lines table) (table_filter table)))
       (ap seen (c.open.ensures.kept.files between line.file
       ∙ c.length.ensures.kept.disk.files honest line.file))
       (c.in_ok-table.ensures.checked between).0 in

@@ -7,6 +7,7 @@ use Rattle.kv_types.specs.{Entry}
 use Rattle.table_format.specs.declared.FileError.TheVariants as reading
 use Rattle.table_format.specs.declared.TableError.TheVariants as table
 use Rattle.table_format.specs.{data_bytes, lent_entry, table_error}
+use Rattle.byte_fields.specs.declared.format.Format.TheVariants.{Two}
 use Rattle.table_builder.specs.declared.builder.Builder.{Builder}
 use Rattle.table_builder.specs.Builders.{BuildsNothing, HoldsDivision, HoldsEntries}
 use Rattle.table_builder.specs.Closing.{CanClose}
@@ -99,7 +100,7 @@ returns-in_err-close_full g c =
           (arith, m.entries_few)) in
           let can = can_close old mid entries entry b.holds c.requires knows has same.1 same.2 in
           let fresh = subst
-          (λ (f : ℕ). IsFresh (g.D.Disk.state c.args.disk.now f) (data_bytes
+          (λ (f : ℕ). IsFresh (g.D.Disk.state c.args.disk.now f) (data_bytes Two
           (division entries).closed))
           (sym same.0) b.file in
           let why = c.in_err-close_full.ensures.written (division entries) entry can honest fresh in
@@ -168,17 +169,17 @@ returns g c =
           (arith, m.entries_few)) in
           let can = can_close old mid entries entry b.holds c.requires knows has same.1 same.2 in
           let fresh = subst
-          (λ (f : ℕ). IsFresh (state c.args.disk.now f) (data_bytes (division entries).closed))
+          (λ (f : ℕ). IsFresh (state c.args.disk.now f) (data_bytes Two (division entries).closed))
           (sym same.0) b.file in
           let written = c.in_ok-close_full.ensures.written
           (division entries) entry can honest fresh in
           record {
             holds = held entries b.holds;
             file = subst (λ it. IsFresh (state c.close_full.new.disk old.file)
-                (data_bytes it.closed))
+                (data_bytes Two it.closed))
                 (sym (division_push entries entry))
                 (subst (λ (f : ℕ). IsFresh (state c.close_full.new.disk f)
-                (data_bytes (with_entry (division entries) entry).closed)) same.0 written);
+                (data_bytes Two (with_entry (division entries) entry).closed)) same.0 written);
           };
       held = held;
       quiet = λ entries h part.

@@ -1,5 +1,6 @@
 use Rattle.std.proofs.Common.{◌≡◌, length, ap, ◌∙◌, arith}
 use Rattle.table_format.specs.{block_bytes}
+use Rattle.byte_fields.specs.declared.format.Format.TheVariants.{Two}
 use Rattle.disk.specs.WritesLemmas.{writes_as}
 use Rattle.table_builder.proofs.DeviceLemmas.{passed_on, wants_memory}
 use Rattle.table_builder.proofs.builder.Builder.close.Goals as goal
@@ -18,7 +19,7 @@ returns-in_err-append-clause-device g c =
     let device = c.append.ensures.device in
     writes_as g.D.Disk c.args.self.now.file (passed_on called e result c.in_err-append.was reported)
     (λ out blocks one can.
-    let is : c.deref.result.now ≡ block_bytes one =
+    let is : c.deref.result.now ≡ block_bytes Two one =
     c.deref.ensures.value ∙ (c.in_ok-seal.ensures.sealed blocks one can).bytes in
     let small = can.small in
     let room = can.room in

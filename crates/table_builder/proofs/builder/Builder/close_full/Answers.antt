@@ -3,6 +3,7 @@ use Rattle.disk.specs.{IsEnvironmental}
 use Rattle.table_format.specs.declared.FileError.TheVariants as reading
 use Rattle.table_format.specs.declared.sizes.TheConstants.{BLOCK_SIZE}
 use Rattle.table_format.specs.{block_content, data_bytes}
+use Rattle.byte_fields.specs.declared.format.Format.TheVariants.{Two}
 use Rattle.table_builder.specs.Builders.{HoldsDivision}
 use Rattle.table_builder.specs.Divisions.{Division}
 use Rattle.table_builder.specs.Fresh.{IsFresh}
@@ -18,7 +19,7 @@ returns-then-len-lt-BLOCK_SIZE-clause-device g c =
 -- the entry filled its block
 pub returns-clause-closed : goal.returns-clause-closed
 returns-clause-closed g c = λ parts entry can.
-    let full : BLOCK_SIZE ≤ length (block_content (parts.opened ++ entry ∷ [])) =
+    let full : BLOCK_SIZE ≤ length (block_content Two (parts.opened ++ entry ∷ [])) =
     omega (
       arith,
       c.len.ensures (parts.opened ++ entry ∷ []) can.entries,
@@ -31,14 +32,14 @@ returns-clause-closed g c = λ parts entry can.
 
 pub returns-clause-written : goal.returns-clause-written
 returns-clause-written g c = λ parts entry can honest fresh.
-    let full : BLOCK_SIZE ≤ length (block_content (parts.opened ++ entry ∷ [])) =
+    let full : BLOCK_SIZE ≤ length (block_content Two (parts.opened ++ entry ∷ [])) =
     omega (
       arith,
       c.len.ensures (parts.opened ++ entry ∷ []) can.entries,
       c.if-len-lt-BLOCK_SIZE.false,
     ) in
     subst (λ (it : Division). MatchResult c.close.result
-    (λ _. IsFresh (g.D.Disk.state c.close.new.disk c.args.self.now.file) (data_bytes it.closed))
+    (λ _. IsFresh (g.D.Disk.state c.close.new.disk c.args.self.now.file) (data_bytes Two it.closed))
     (IsEnvironmental reading.Disk reading.Memory)) (sym (with_entry_full parts entry full))
     (c.close.ensures.written parts.closed (record { front = parts.opened; last = entry }) can honest
     fresh)

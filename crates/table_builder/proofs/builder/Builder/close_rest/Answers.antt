@@ -2,6 +2,7 @@ use Rattle.std.proofs.Common.{◌≡◌, ◌<◌, List, length, refl, sym, subst
 use Rattle.disk.specs.{IsEnvironmental}
 use Rattle.table_format.specs.declared.FileError.TheVariants as reading
 use Rattle.table_format.specs.{Block, data_bytes}
+use Rattle.byte_fields.specs.declared.format.Format.TheVariants.{Two}
 use Rattle.table_builder.specs.Builders.{HoldsBlocks}
 use Rattle.table_builder.specs.Divisions.{block_from, division}
 use Rattle.table_builder.specs.Fresh.{IsFresh}
@@ -60,7 +61,7 @@ returns-clause-written g c = λ entries h honest fresh.
     let o = opened_some parts.opened some in
     let all = finished_some parts o.0 o.1 o.2 in
     subst (λ (blocks : List Block). MatchResult c.close.result
-    (λ _. IsFresh (g.D.Disk.state c.close.new.disk it.file) (data_bytes blocks))
+    (λ _. IsFresh (g.D.Disk.state c.close.new.disk it.file) (data_bytes Two blocks))
     (IsEnvironmental reading.Disk reading.Memory))
     (sym all)
     (c.close.ensures.written parts.closed (block_from o.0 o.1)

@@ -1,6 +1,7 @@
 use Rattle.std.proofs.Common.{◌≡◌, ◌++◌, ℕ, List, length, ap, sym, subst, ◌∙◌, arith, length-append}
 use Rattle.std.proofs.Common.{IfSome}
-use Rattle.table_format.specs.{TableRepresents, data_bytes, last_entry}
+use Rattle.table_format.specs.{TableRepresentsIn, data_bytes, last_entry}
+use Rattle.byte_fields.specs.declared.format.Format.TheVariants.{Two}
 use Rattle.table_builder.specs.Keys.{first_entry}
 use Rattle.table_builder.proofs.ClosingLemmas.{last_key}
 use Rattle.disk.specs.WritesLemmas.{writes_as}
@@ -34,17 +35,17 @@ returns-clause-ended g c = λ blocks entries can honest fresh.
     let tail = c.deref.result.now in
     let value = c.deref.ensures.value in
     let t = c.in_ok-tail.ensures.tail blocks entries can in
-    let table = subst (λ (b : List ℕ). (holds : TableRepresents (data_bytes blocks ++ b) entries)
-    × (holds.blocks ≡ blocks)) (sym value) t.0 in
+    let table = subst (λ (b : List ℕ). (holds : TableRepresentsIn Two
+    (data_bytes Two blocks ++ b) entries) × (holds.blocks ≡ blocks)) (sym value) t.0 in
     let keys = c.in_ok-tail.ensures.keys in
     let size = can.size in
     let least = c.into_stored.ensures ∙ ap (λ k. k.least) keys in
     let greatest = c.into_stored-2.ensures ∙ ap (λ k. k.last) keys in
     record {
       holds = record {
-        bytes = data_bytes blocks ++ tail;
+        bytes = data_bytes Two blocks ++ tail;
         durable = c.in_ok-append_last.ensures.appended
-            (data_bytes blocks) honest fresh can.closed.written;
+            (data_bytes Two blocks) honest fresh can.closed.written;
         represents = table.0;
       };
       blocks = table.1 ∙ can.are;
@@ -57,7 +58,7 @@ returns-clause-ended g c = λ blocks entries can honest fresh.
         size,
         can.closed.written,
         ap length value,
-        length-append (data_bytes blocks) tail,
+        length-append (data_bytes Two blocks) tail,
       );
       least = subst (λ (b : List ℕ). IfSome (first_entry entries) (λ entry. b ≡ entry.key))
           (sym least)

@@ -4,6 +4,7 @@ use Rattle.disk.specs.WritesLemmas.{writes_as, writes_done}
 use Rattle.disk.specs.{Slot}
 use Rattle.kv_types.specs.{Entry}
 use Rattle.table_format.specs.{data_bytes}
+use Rattle.byte_fields.specs.declared.format.Format.TheVariants.{Two}
 use Rattle.table_builder.specs.Builders.{Builds}
 use Rattle.table_builder.specs.Closing.{CanEnd}
 use Rattle.table_builder.specs.Divisions.{division, finished_blocks}
@@ -45,7 +46,7 @@ returns-in_err-end g c =
       status = search rules;
       finished = λ entries honest b.
           let fresh = subst (λ (f : ℕ). IsFresh (g.D.Disk.state c.close_rest.new.disk f)
-          (data_bytes (finished_blocks (division entries)))) (sym c.close_rest.ensures.file)
+          (data_bytes Two (finished_blocks (division entries)))) (sym c.close_rest.ensures.file)
           (c.in_ok-close_rest.ensures.written entries b.holds honest b.file) in
           let why = c.in_err-end.ensures.ended (finished_blocks (division entries)) entries
           (can _ entries b) (c.close_rest.ensures.device.kept.honest.1 honest) fresh in
@@ -73,7 +74,7 @@ returns g c =
       status = search rules;
       finished = λ entries honest b.
           let fresh = subst (λ (f : ℕ). IsFresh (g.D.Disk.state c.close_rest.new.disk f)
-          (data_bytes (finished_blocks (division entries)))) (sym c.close_rest.ensures.file)
+          (data_bytes Two (finished_blocks (division entries)))) (sym c.close_rest.ensures.file)
           (c.in_ok-close_rest.ensures.written entries b.holds honest b.file) in
           rw (← c.close_rest.ensures.file) (c.in_ok-end.ensures.ended
           (finished_blocks (division entries)) entries

@@ -1,6 +1,7 @@
 use Rattle.std.proofs.Common.{◌++◌, ◌∷◌, [], arith}
 use Rattle.table_format.specs.{lent_entry}
 use Rattle.table_format.specs.FrontsLemmas.{length-block_content, length-block_part}
+use Rattle.byte_fields.specs.declared.format.Format.TheVariants.{Two}
 use Rattle.table_builder.specs.Divisions.{division}
 use Rattle.table_builder.proofs.BuildersLemmas.{bounds}
 use Rattle.table_builder.proofs.DivisionsLemmas.{entry_short, length-entries_push, size_push}
@@ -25,6 +26,6 @@ returns c = λ entries h.
       size_push entries entry,
       entry_short entry c.requires,
       length-entries_push opened entry,
-      length-block_content opened,
-      length-block_part (opened ++ entry ∷ []),
+      length-block_content Two opened,
+      length-block_part Two (opened ++ entry ∷ []),
     )

@@ -28,11 +28,12 @@ returns-clause-found c =
     ≡ Some c.in-Some-peek.block.now =
     sym c.peek.ensures ∙ ap option_copied c.in-Some-peek.is in
     found_kept old.numbers old.blocks.entries c.args.file c.in-Some.number.now c.args.place
-    c.in-Some-peek.block.now c.in_ok-found.found known found c.in_ok-found.ensures
+    c.args.format c.in-Some-peek.block.now c.in_ok-found.found known found
+    (c.is_same.ensures.0 c.if-not-is_same.false) c.in_ok-found.ensures.1
 
 pub returns-clause-keeps : goal.returns-clause-keeps
-returns-clause-keeps c = λ file place bytes k.
+returns-clause-keeps c = λ file place format bytes k.
     let old = c.args.self.now in
-    promoted_kept old.numbers old.blocks.entries _ file place bytes
-    (subst (λ (l : Blocks). IsKeptBlock old.numbers l.entries file place bytes)
+    promoted_kept old.numbers old.blocks.entries _ file place format bytes
+    (subst (λ (l : Blocks). IsKeptBlock old.numbers l.entries file place format bytes)
     c.promote.ensures.entries k)

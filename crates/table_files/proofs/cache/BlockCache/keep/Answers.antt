@@ -14,11 +14,12 @@ invariant_of-self c =
     }
 
 pub returns-in-Ok : goal.returns-in-Ok
-returns-in-Ok c = λ f p bytes k.
+returns-in-Ok c = λ f p format bytes k.
     let old = c.number_of.new.self in
     elim (put_kept old.numbers old.blocks c.put.new.self c.put.result c.args.file c.in-Some.number
     c.args.place c.in-Ok.copy c.in-Some.ensures.number
-    (record { entries = c.put.ensures.entries; err = c.put.ensures.err }) old.apart f p bytes k) [
-      | inl was ↦ inl (c.number_of.ensures.keeps f p bytes was)
-      | inr new ↦ inr (new.0, new.1, new.2 ∙ c.in-Ok.ensures)
+    (record { entries = c.put.ensures.entries; err = c.put.ensures.err }) old.apart f p format bytes
+    k) [
+      | inl was ↦ inl (c.number_of.ensures.keeps f p format bytes was)
+      | inr new ↦ inr (new.0, new.1, new.2 ∙ c.in-Ok.ensures.0, new.3 ∙ c.in-Ok.ensures.1)
     ]

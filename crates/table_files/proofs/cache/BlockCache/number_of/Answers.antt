@@ -4,10 +4,10 @@ use Rattle.table_files.proofs.cache.BlockCache.number_of.Goals as goal
 
 -- no file has a number more
 pub returns-in_default-insert-clause-keeps : goal.returns-in_default-insert-clause-keeps
-returns-in_default-insert-clause-keeps c = λ file place bytes.
+returns-in_default-insert-clause-keeps c = λ file place format bytes.
     let old = c.args.self.now in
     let stay = unchanged old.numbers c.insert.new.self c.in_default-insert.ensures.err in
-    fewer_numbers old.numbers c.insert.new.self old.blocks.entries file place bytes stay
+    fewer_numbers old.numbers c.insert.new.self old.blocks.entries file place format bytes stay
 
 -- the new number is above all others
 pub invariant_of-self-2 : goal.invariant_of-self-2

@@ -1,6 +1,8 @@
-use Rattle.std.proofs.Common.{refl}
+use Rattle.std.proofs.Common.{refl, subst, sym}
 use Rattle.disk.specs.StillLemmas.{still}
 use Rattle.std.specs.Rc.{rc_slice_items}
+use Rattle.byte_fields.specs.declared.format.Format.{Format}
+use Rattle.table_files.specs.BlockReads.{IsBlockAt}
 use Rattle.table_files.proofs.BlocksStay.{blocks_stay, blocks_and_one, same_block}
 use Rattle.table_files.proofs.cached_disk.CachedDisk.block.Goals as goal
 
@@ -49,9 +51,13 @@ invariant_of-self-2 g c = record {
       let disk = g.D.Disk.state c.read_block.new.disk in
       let right = blocks_stay (g.D.Disk.state old.disk) disk old.cache c.get.new.self
       (old.checked was) (c.read_block.ensures.kept.files was) c.get.ensures.keeps in
-      let there = (c.in_ok-block-2.ensures.answers was).1 in
+      let answer = c.in_ok-block-2.ensures.answers was in
       let block = rc_slice_items c.in_ok-block-2.block.bytes in
-      blocks_and_one disk c.get.new.self c.keep.new.self c.args.file c.args.place block right
-      (same_block (g.D.Disk.state old.disk) disk c.args.file c.args.place block
+      let kind = c.in_ok-block-2.block.format in
+      let there = subst (λ (k : Format). IsBlockAt (g.D.Disk.state old.disk) c.args.file
+      c.args.place k block) (sym answer.2) answer.1 in
+      blocks_and_one disk c.get.new.self c.keep.new.self c.args.file c.args.place kind block
+      right
+      (same_block (g.D.Disk.state old.disk) disk c.args.file c.args.place kind block
       (c.read_block.ensures.kept.files was c.args.file) there) c.keep.ensures;
 }

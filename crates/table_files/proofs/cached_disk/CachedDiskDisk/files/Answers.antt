@@ -8,5 +8,6 @@ invariant_of-self g c = record {
       let old = c.args.self.now in
       let was = c.files.ensures.kept.disk.honest.0 honest in
       blocks_stay (g.D.Disk.state old.disk) (g.D.Disk.state c.files.new.self) old.cache old.cache
-      (old.checked was) (c.files.ensures.kept.disk.files was) (λ file place part holds. holds);
+      (old.checked was) (c.files.ensures.kept.disk.files was)
+      (λ file place format part holds. holds);
 }
