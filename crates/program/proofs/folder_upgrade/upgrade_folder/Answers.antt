@@ -1,15 +1,20 @@
-use Rattle.std.proofs.Common.{inl, inr, refl}
-use Rattle.program.proofs.FolderUpgrades.{no_folder, some_folder}
+use Rattle.std.proofs.Common.{Err, ap, inl, inr, refl}
+use Rattle.engine.specs.EngineError.TheVariants as engine
 use Rattle.program.proofs.folder_upgrade.upgrade_folder.Goals as goal
 
 -- the path of no folder
 pub returns-then-is_empty : goal.returns-then-is_empty
-returns-then-is_empty g c = inr (no_folder _ _ c.from.ensures)
+returns-then-is_empty g c = inr (engine.NotCreated, ap Err c.from.ensures, inl refl, refl)
+
+-- the lock was not to be had
+pub returns-in-Err : goal.returns-in-Err
+returns-in-Err g c =
+    inr (c.refusal_of.result, ap Err c.from-in-Err.ensures, c.refusal_of.ensures, refl)
 
 -- the lock was held
-pub returns : goal.returns
-returns g c = inl (record {
-  some = some_folder c.args.folder.now _ c.is_empty.ensures c.if-is_empty.false;
+pub returns-in-Ok : goal.returns-in-Ok
+returns-in-Ok g c = inl (record {
+  some = grind (c.is_empty.ensures, c.if-is_empty.false);
   disk = c.in-Ok.disk;
   below = c.in-Ok.ensures;
   later = c.upgrade_store.new.disk;
