@@ -19,13 +19,12 @@ use Rattle.dir_disk.specs.declared.answers.EntryKind.TheVariants as kind
 abbrev pub IsMissing : Error → Type 0
 IsMissing e = error_kind e ≡ NotFound
 
--- what is at a path: a file with its length, something else, or nothing; each other error is a
--- failure of the device
-abbrev pub IsKindAnswer : Result Metadata Error → Result EntryKind DiskError → Type 0
+-- what is at a path: a file with its length, something else, or nothing; each other error stays
+abbrev pub IsKindAnswer : Result Metadata Error → Result EntryKind Error → Type 0
 IsKindAnswer (Ok it) answer = (IsFile (file_type it) × (answer ≡ Ok (kind.File (metadata_len it))))
     ⊎ ((IsFile (file_type it) → ⊥) × (answer ≡ Ok kind.Other))
 IsKindAnswer (Err e) answer = (IsMissing e × (answer ≡ Ok kind.Absent))
-    ⊎ ((IsMissing e → ⊥) × (answer ≡ Err Failed))
+    ⊎ ((IsMissing e → ⊥) × (answer ≡ Err e))
 
 -- the file that was opened; one that was not to be created may be missing, and each other error is
 -- a failure of the device

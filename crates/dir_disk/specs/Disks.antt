@@ -1,5 +1,5 @@
 -- Disks over a folder and over another disk, as callers see them.
-use Rattle.std.specs.Prelude.{◌≡◌, ◌==◌, ℕ, List, Bool, IsSome, None, cond, true}
+use Rattle.std.specs.Prelude.{◌≡◌, ◌⊎◌, ◌==◌, ℕ, List, Bool, IsSome, None, cond, true}
 use Rattle.std.specs.Prelude.{[], ◌∷◌, is_some, string_bytes}
 use Rattle.std.specs.Prelude.{Result, IsErrOf, MatchResult, ◌-◌, ◌^◌, ◌<◌, ◌≤◌}
 use Rattle.std.specs.List.{list_any}
@@ -25,6 +25,14 @@ disk_folder disk = disk.folder
 -- whether calls may change the folder's files
 abbrev pub may_change : {R : Type 0} → DirDisk R → Bool
 may_change disk = disk.writes
+
+-- the system is called no more: the path is empty, or what was synced may be lost
+abbrev pub is_shut : {R : Type 0} → DirDisk R → Bool
+is_shut disk = disk.is_shut
+
+-- the disk is so
+abbrev pub IsShut : {R : Type 0} → DirDisk R → Type 0
+IsShut disk = is_shut disk ≡ true
 
 -- a disk of the folder at this path
 abbrev pub IsFolderAt : {R : Type 0} → List ℕ → DirDisk R → Type 0
@@ -91,11 +99,23 @@ pub record IsUncounted {T : Type 0} (result : Result T DiskError) (before now : 
   pub count : now ≡ before
   pub last : 2 ^ 64 - 1 ≤ before → IsErrOf result Failed
 
--- what each call keeps of a folder: failures are counted, and it stays set up as it was
-pub record KeepsFolder {R T : Type 0} (old new : DirDisk R) (result : Result T DiskError)
+-- what a call keeps of a folder whose answer is not counted yet: it stays set up as it was, and
+-- where it is shut a failure is reported
+pub record KeepsUncounted {R T : Type 0} (old new : DirDisk R) (result : Result T DiskError)
     : Type 0 where
+  pub counts : IsUncounted result old.failures.count new.failures.count
+  pub same : IsSetUpAs old new
+  pub works : is_shut new ≡ is_shut old
+  pub shut : IsShut old → IsErrOf result Failed
+
+-- What each call keeps of a folder: failures are counted, and it stays set up as it was. Where it
+-- is shut it stays so, and each answer is a failure; for this alone it comes to be so.
+pub record KeepsFolder {R T : Type 0} (old new : DirDisk R) (result : Result T DiskError)
+    (Shuts : Type 0) : Type 0 where
   pub counts : CountsFailure result old.failures.count new.failures.count
   pub same : IsSetUpAs old new
+  pub shut : IsShut old → IsErrOf result Failed × IsShut new
+  pub shuts : IsShut new → IsShut old ⊎ Shuts
 
 -- What a call keeps of the disk inside that only looks at it: the files of an honest disk, and the
 -- incidents of any. That disk has failed exactly where the call is `Failed` below the last count.

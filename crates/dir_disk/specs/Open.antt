@@ -21,3 +21,10 @@ pub record IsSetUpAs {R : Type 0} (old new : DirDisk R) : Type 0 where
   pub folder : new.folder ≡ old.folder
   pub writes : new.writes ≡ old.writes
   pub lock : new.lock ≡ old.lock
+
+-- the same disk, but for the names of files that it has made
+pub record IsSameButForNames {R : Type 0} (old new : DirDisk R) : Type 0 where
+  pub set_up : IsSetUpAs old new
+  pub files : new.files ≡ old.files
+  pub works : new.is_shut ≡ old.is_shut
+  pub failures : new.failures ≡ old.failures

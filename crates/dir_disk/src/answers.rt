@@ -1,5 +1,5 @@
 // What the system answered, as an answer of the disk. Nothing here asks it for anything.
-ghost use Rattle.std.specs.Prelude.{IsErrOf, IsOk, MatchResult};
+ghost use Rattle.std.specs.Prelude.{◌≡◌, IsErrOf, MatchResult, Ok};
 ghost use Rattle.dir_disk.specs.Answers.{IsKindAnswer, IsListingFault, IsOpeningAnswer};
 ghost use Rattle.dir_disk.specs.Answers.{IsReadingAnswer, IsRemovalAnswer};
 
@@ -18,25 +18,25 @@ pub enum EntryKind {
     Absent,
 }
 
-/// What is at a path of which the system says this.
-pub fn kind_of(found: io::Result<Metadata>) -> Result<EntryKind, DiskError>
+/// What is at a path of which the system says this. A symbolic link is no file.
+pub fn kind_of(found: io::Result<Metadata>) -> io::Result<EntryKind>
     ensures { IsKindAnswer found result }
 {
     match found {
         Ok(metadata) if metadata.is_file() => Ok(EntryKind::File(metadata.len())),
         Ok(_) => Ok(EntryKind::Other),
         Err(e) if e.kind() == ErrorKind::NotFound => Ok(EntryKind::Absent),
-        Err(_) => Err(DiskError::Failed),
+        Err(e) => Err(e),
     }
 }
 
-/// The file that was opened, and created if that was asked for.
+/// The file that was opened, which may have gone since it was looked at. To one who would have made
+/// it, that is a failure.
 pub fn opening_of(opened: io::Result<File>, creates: bool) -> Result<File, DiskError>
     ensures { IsOpeningAnswer creates opened result }
 {
     match opened {
         Ok(file) => Ok(file),
-        // Where it was to be created, the folder is absent.
         Err(e) if e.kind() == ErrorKind::NotFound && !creates => Err(DiskError::NoFile),
         Err(_) => Err(DiskError::Failed),
     }
@@ -74,12 +74,12 @@ pub fn cause(e: io::Error) -> DiskError
     }
 }
 
-/// Whether what was asked for was done.
-pub fn done(called: io::Result<()>) -> Result<(), DiskError>
-    ensures { MatchResult called (λ _. IsOk result) (λ _. IsErrOf result DiskError.Failed) }
+/// What was asked for, where it was done.
+pub fn done<T>(called: io::Result<T>) -> Result<T, DiskError>
+    ensures { MatchResult called (λ it. result ≡ Ok it) (λ _. IsErrOf result DiskError.Failed) }
 {
     match called {
-        Ok(()) => Ok(()),
+        Ok(it) => Ok(it),
         Err(_) => Err(DiskError::Failed),
     }
 }

@@ -6,6 +6,7 @@ mod failure_count;
 mod folder;
 mod lock;
 mod names;
+mod new_names;
 mod open_file;
 mod open_files;
 mod read_only;

@@ -78,16 +78,18 @@ fn make_names(rt: &impl Abort, host: &HostRuntime, folder: &str) {
     fs::create_dir(host, path).expect(rt, "a folder");
 }
 
-// A folder with a number for its name is in the way.
-static IN_THE_WAY: [(Call, Answer); 8] = [
+// A folder with a number for its name is in the way. Behind a sync that failed each call fails.
+static IN_THE_WAY: [(Call, Answer); 10] = [
     (Call::Files(&[0, 9, 10, u64::MAX]), Ok(1)),
     (Call::Length(11), FAILED),
     (Call::Read(11, 0, b""), FAILED),
     (Call::Write(11, 0, b"x"), FAILED),
     (Call::Cut(11, 0), FAILED),
-    (Call::Sync(11), FAILED),
     (Call::Remove(11), FAILED),
     (Call::Files(&[0, 9, 10, u64::MAX]), Ok(1)),
+    (Call::Sync(11), FAILED),
+    (Call::Files(&[]), FAILED),
+    (Call::Length(9), FAILED),
 ];
 
 #[test]
@@ -118,6 +120,27 @@ static NO_PLACE: [(Call, Answer); 6] = [
     (Call::Remove(1), FAILED),
     (Call::Write(1, 0, b"x"), FAILED),
 ];
+
+// Of an empty path, which would be that of the root.
+static NO_PATH: [(Call, Answer); 6] = [
+    (Call::Files(&[]), FAILED),
+    (Call::Length(1), FAILED),
+    (Call::Read(1, 0, b""), FAILED),
+    (Call::Write(1, 0, b"x"), FAILED),
+    (Call::Sync(1), FAILED),
+    (Call::Remove(1), FAILED),
+];
+
+#[test]
+fn an_empty_path_is_refused(rt: HostRuntime) {
+    let mut disk = disk_over(&rt, &rt, "");
+    is_so(
+        &rt,
+        lock_of(&rt, &mut disk) == Err(LockError::Failed),
+        "no lock",
+    );
+    rows_hold(&rt, &mut disk, &NO_PATH);
+}
 
 fn lock_of(rt: &impl Abort, disk: &mut DirDisk<HostRuntime>) -> Result<(), LockError> {
     let answer = disk.lock();
