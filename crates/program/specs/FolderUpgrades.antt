@@ -8,8 +8,8 @@ use Rattle.dir_disk.specs.declared.folder.DirDisk.{DirDisk}
 use Rattle.dir_disk.specs.Disks.{IsLockedFolder}
 use Rattle.engine.specs.EngineError.{EngineError}
 use Rattle.engine.specs.EngineError.TheVariants as engine
-use Rattle.engine.specs.Upgraded.{Upgraded}
-use Rattle.engine.specs.Upgraded.TheVariants as upgraded
+use Rattle.engine.specs.declared.upgrading.Upgraded.{Upgraded}
+use Rattle.engine.specs.declared.upgrading.Upgraded.TheVariants as upgraded
 use Rattle.engine.specs.{ExplainsUpgrade, IsFoundAs, IsUpgradeRefusal, SparesOthers}
 use Rattle.lab.specs.Stop.TheVariants as stop
 use Rattle.store_texts.specs.Writing.{AppendsPart}

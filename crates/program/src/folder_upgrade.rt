@@ -1,5 +1,5 @@
 //! The store of one folder, taken over from format 1 in place.
-ghost use Rattle.std.specs.Prelude.{◌≡◌, ◌×◌, IfErr, IfOk, IsErrOf};
+ghost use Rattle.std.specs.Prelude.{◌≡◌, IfOk, IsErrOf};
 ghost use Rattle.disk.specs.{KeepsDisk, contents};
 ghost use Rattle.dir_disk.specs.Disks.{IsLockedFolder};
 ghost use Rattle.engine.specs.{ExplainsUpgrade, IsFoundAs, IsUpgradeRefusal, SparesOthers};

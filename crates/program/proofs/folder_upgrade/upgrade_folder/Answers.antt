@@ -1,4 +1,4 @@
-use Rattle.std.proofs.Common.{Err, ap, inl, inr, refl}
+use Rattle.std.proofs.Common.{Err, ap, arith, inl, inr, refl}
 use Rattle.engine.specs.EngineError.TheVariants as engine
 use Rattle.program.proofs.folder_upgrade.upgrade_folder.Goals as goal
 
@@ -12,12 +12,12 @@ returns-in-Err g c =
     inr (c.refusal_of.result, ap Err c.from-in-Err.ensures, c.refusal_of.ensures, refl)
 
 -- the lock was held
-pub returns-in-Ok : goal.returns-in-Ok
-returns-in-Ok g c = inl (record {
-  some = grind (c.is_empty.ensures, c.if-is_empty.false);
+pub returns : goal.returns
+returns g c = inl (record {
+  some = λ none. grind (arith, none, c.is_empty.ensures, c.if-is_empty.false);
   disk = c.in-Ok.disk;
   below = c.in-Ok.ensures;
-  later = c.upgrade_store.new.disk;
-  kept = c.upgrade_store.ensures.kept;
-  said = c.upgrade_store.ensures.said;
+  later = c.upgrade_store-told.new.disk;
+  kept = c.upgrade_store-told.ensures.kept;
+  said = c.upgrade_store-told.ensures.said;
 })
