@@ -7,7 +7,7 @@ use crate::cases::is_so;
 use crate::entries::{client_key, entry_at};
 use crate::items::{is_same, put, row_key_of};
 use crate::open_tables::{build, cursor_in};
-use byte_fields::{LentKey, Space, StoredKey};
+use byte_fields::{Format, LentKey, Space, StoredKey};
 use configurations::NodeId;
 use disk::{Disk, MemDisk};
 use merge_iter::{Cursor, OwnedEntry};
@@ -126,7 +126,7 @@ fn version_of(rt: &impl Abort, alloc: Global, edit: &[u8]) -> StoreVersion {
     log.append(&mut disk, edit).expect(rt, "a record");
     let opened = Log::open(alloc, &mut disk, 1, 0).expect(rt, "the log");
     let id = NodeId::new(1).expect(rt, "an id");
-    replay(alloc, id, &opened).expect(rt, "a version")
+    replay(alloc, id, Format::Two, &opened).expect(rt, "a version")
 }
 
 // ---- what an edit says, in letters
